@@ -51,10 +51,11 @@ opens_plain flows.OpensLoop = true
 opens_plain flows.OpensIf = true
 opens_plain _ = false
 
--- it ends a block, or the body
-abbrev pub is_end : Flow → Bool
-is_end flows.End = true
-is_end _ = false
+-- it ends a block, or the body, or begins the other part of an `if`
+abbrev pub parts : Flow → Bool
+parts flows.End = true
+parts flows.Else = true
+parts _ = false
 
 abbrev pub opened_by : Kind → Bool
 opened_by kinds.Block = true

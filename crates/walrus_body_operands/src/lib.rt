@@ -14,7 +14,7 @@ mod types;
 pub use handlers::{handler_type, last_handler_type};
 pub use labels::Labels;
 pub use scope::{Operands, Scope};
-pub use steps::{Step, end_of, instr_on, opened_type, opener_of, step_of};
+pub use steps::{Step, instr_on, opened_type, opener_of, part_of, step_of};
 
 // Passed on to crates above, which then list this one alone.
 pub mod body_stack {

@@ -76,7 +76,7 @@ fn casting(code: OpCode, block: InstrSeqId, from_ty: RefType, to_ty: RefType) ->
     }
 }
 
-#[inline(always)]
+#[inline]
 fn branch<L: Labels>(code: OpCode, depth: u32, labels: &L, offset: u64) -> Result<Instr, BodyError>
     requires { (k : ℕ) → is_some (labelled_at code depth k) ≡ true }
     ensures { (s : Sight) → Meets result (items_test s (length (L.ids labels.now)) (record { code = code; items = Names LabelSpace depth ∷ [] })) offset (RunsAs s (L.ids labels.now) code (Names LabelSpace depth ∷ [])) }
@@ -192,8 +192,7 @@ fn access_of(immediates: &Immediates) -> Option<MemoryAccess>
     ensures { result ≡ accessed immediates.now }
 {
     match immediates {
-        Immediates::Access(access) => Some(*access),
-        Immediates::AccessLane(access, _) => Some(*access),
+        Immediates::Access(access) | Immediates::AccessLane(access, _) => Some(*access),
         _ => None,
     }
 }

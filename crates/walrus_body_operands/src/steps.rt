@@ -9,7 +9,7 @@ ghost use Rattle.walrus_body_steps.specs.walrus_body_rules.Rules.{items_test};
 ghost use Rattle.walrus_body_steps.specs.walrus_body_rules.Sights.{Sight};
 ghost use Rattle.walrus_body_steps.specs.Meanings.{IsOpener, OpensOf};
 ghost use Rattle.walrus_body_operands.specs.Asked.{AnswersIf, Meets};
-ghost use Rattle.walrus_body_operands.specs.Listed.{IsListed, RunsListed, accessed, begins_block, holds_list, keeps_on, known_labels, names_alone, names_label, names_tag, opened_by, opens_plain};
+ghost use Rattle.walrus_body_operands.specs.Listed.{IsListed, RunsListed, accessed, begins_block, holds_list, keeps_on, known_labels, names_alone, names_label, names_tag, opened_by, opens_plain, parts};
 ghost use Rattle.walrus_body_operands.specs.Steps.{IsStep};
 
 use crate::faults::no_item;
@@ -186,24 +186,30 @@ pub fn instr_on<S: Scope, L: Labels>(
     run(scope, alloc, op, labels, offset)
 }
 
-/// What an operator does that ends a block, or the body: it names nothing, so nothing is asked of what is around it. As [`step_of`], it is
-/// told where the operator stands, of which its contract speaks.
+/// What an operator does that ends a block, or the body, or begins the other part of an `if`: it names nothing, so nothing is asked of what
+/// is around it. As [`step_of`], it is told where the operator stands, of which its contract speaks.
 ///
 /// # Errors
 ///
 /// None.
 #[inline(always)]
-pub fn end_of<S: Scope, L: Labels>(
+pub fn part_of<S: Scope, L: Labels>(
+    flow: Flow,
     scope: &S,
     op: &Operator,
     labels: &L,
     offset: u64,
 ) -> Result<Step, BodyError>
     requires listed { IsListed op.now }
-    requires ends { flow_of op.now.code ≡ Some Flow.End }
+    requires part { parts flow ≡ true }
+    requires does { flow_of op.now.code ≡ Some flow }
     ensures { AnswersIf (holds_list (kind_is op.now.immediates)) result (items_test (S.sight scope.now) (known_labels (flow_of op.now.code) (length (L.ids labels.now))) (seen op.now)) offset (IsStep (S.sight scope.now) (L.ids labels.now) (seen op.now)) }
 {
-    Ok(Step::End)
+    match flow {
+        Flow::End => Ok(Step::End),
+        Flow::Else => Ok(Step::Else),
+        _ => unreachable!(),
+    }
 }
 
 /// How an operator begins that opens a block, a loop or an `if`.

@@ -178,6 +178,7 @@ fn function_block<S: Scope>(scope: &S, ty: TypeId) -> Option<InstrSeqType>
 }
 
 /// The type of a block that is written so.
+#[inline(always)]
 pub(crate) fn block_type<S: Scope>(
     scope: &S,
     ty: BlockType,

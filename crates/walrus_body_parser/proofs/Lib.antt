@@ -3,7 +3,8 @@ mod Typing
 pub mod Takes
 mod Reading
 mod Looping
-mod Frequent
+mod Classes
+mod Rows
 mod Running
 -- Passed on to crates above, which then list this one alone.
 pub use Rattle.walrus_body_locals.proofs as walrus_body_locals

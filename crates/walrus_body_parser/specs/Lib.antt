@@ -1,3 +1,4 @@
+pub mod Classes
 pub mod Points
 pub mod Changes
 pub mod Trees

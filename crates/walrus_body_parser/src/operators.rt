@@ -10,16 +10,17 @@ ghost use Rattle.walrus_operators.specs.Operators.{seen, IsNext, IsNextOf, Reads
 ghost use Rattle.walrus_body_locals.specs.walrus_body_nesting.Opens.{Good, Shaped};
 ghost use Rattle.walrus_body_operands.specs.walrus_body_stack.Frames.{blocks, heading_of, opens};
 ghost use Rattle.walrus_body_locals.specs.Calls.{Parses};
-ghost use Rattle.walrus_body_operands.specs.Listed.{IsListed, is_end, keeps_on, opens_plain};
+ghost use Rattle.walrus_body_operands.specs.Listed.{IsListed, keeps_on, opens_plain, parts};
 ghost use Rattle.walrus_body_parser.specs.Changes.{ReadsNext, ReadsOn, entry_of};
 ghost use Rattle.walrus_body_parser.specs.Points.{IsRefusedAs};
 ghost use Rattle.walrus_body_parser.specs.Trees.{Follows, validating};
 
+use crate::class::{Class, next_class};
 use crate::steps::change;
 use std::alloc::Global;
 use walrus_body_locals::body_env::{BodyError, Validator};
 use walrus_body_operands::body_stack::Stack;
-use walrus_body_operands::{Scope, end_of, instr_on, opened_type, opener_of, step_of};
+use walrus_body_operands::{Scope, instr_on, opened_type, opener_of, part_of, step_of};
 use walrus_instr::InstrLocId;
 use walrus_operators::operator_table::{Flow, Kind};
 use walrus_operators::{Operator, OperatorError, OperatorReader};
@@ -109,9 +110,10 @@ pub(crate) fn read_any<S: Scope, V: Validator>(
     Ok(done)
 }
 
-// Reads an `end`.
+// Reads an `end` or an `else`.
 #[inline(always)]
-fn read_end<S: Scope, V: Validator>(
+fn read_part<S: Scope, V: Validator>(
+    flow: Flow,
     scope: &S,
     alloc: Global,
     reader: &mut OperatorReader<'_>,
@@ -123,7 +125,8 @@ fn read_end<S: Scope, V: Validator>(
     requires within { IsWithin reader.old }
     requires begins { code_start ≤ reader.old.window.start + reader.old.position }
     requires ends { end_of reader.old < code_start + 4294967295 }
-    requires next { (e : Entry) × IsNext reader.old e × (e.kind ≡ Kind.Bare) × (e.flow ≡ Flow.End) }
+    requires part { parts flow ≡ true }
+    requires next { (e : Entry) × IsNext reader.old e × (e.kind ≡ Kind.Bare) × (e.flow ≡ flow) }
     ensures read { ReadsNext (S.sight scope.now) V.op_step code_start reader.old stack.old validator.old reader.new stack.new validator.new result }
     ensures takes { OnOk result (length (rest reader.new) < length (rest reader.old)) }
     ensures ty { OnOk result (heading_of stack.new ≡ heading_of stack.old) }
@@ -133,10 +136,42 @@ fn read_end<S: Scope, V: Validator>(
     let offset = reader.original_position();
     let place = InstrLocId::new((offset - code_start) as u32);
     let op = next_known(Kind::Bare, alloc, reader)?;
-    let step = end_of(scope, &op, &*stack, offset)?;
+    let step = part_of(flow, scope, &op, &*stack, offset)?;
     let done = change(scope, stack, step, place, offset)?;
     validator.op(offset, &op)?;
     Ok(done)
+}
+
+// Reads an `else`, apart from the loop.
+#[inline(never)]
+fn read_else<S: Scope, V: Validator>(
+    scope: &S,
+    alloc: Global,
+    reader: &mut OperatorReader<'_>,
+    stack: &mut Stack,
+    validator: &mut V,
+    code_start: u64,
+) -> Result<bool, BodyError>
+    requires shaped { Shaped (blocks stack.old) (opens stack.old) }
+    requires within { IsWithin reader.old }
+    requires begins { code_start ≤ reader.old.window.start + reader.old.position }
+    requires ends { end_of reader.old < code_start + 4294967295 }
+    requires next { (e : Entry) × IsNext reader.old e × (e.kind ≡ Kind.Bare) × (e.flow ≡ Flow.Else) }
+    ensures read { ReadsNext (S.sight scope.now) V.op_step code_start reader.old stack.old validator.old reader.new stack.new validator.new result }
+    ensures takes { OnOk result (length (rest reader.new) < length (rest reader.old)) }
+    ensures ty { OnOk result (heading_of stack.new ≡ heading_of stack.old) }
+    ensures entry { OnOk result (entry_of stack.new ≡ entry_of stack.old) }
+    ensures moves { Forward reader.old reader.new }
+{
+    read_part(
+        Flow::Else,
+        scope,
+        alloc,
+        reader,
+        stack,
+        validator,
+        code_start,
+    )
 }
 
 // Reads one that has a block type, and opens a block, a loop or an `if`.
@@ -203,41 +238,16 @@ fn read_known<S: Scope, V: Validator>(
     Ok(())
 }
 
-// Whether the next operator is reached behind one that does this to a run.
-#[inline(always)]
-fn goes_on(flow: Flow) -> bool
-    ensures { result ≡ keeps_on (Some flow) }
-{
-    matches!(flow, Flow::Goes | Flow::Calls | Flow::Chooses)
-}
-
-// Whether one that does this to a run, and has a block type, opens a block, a loop or an `if`.
-#[inline(always)]
-fn is_opening(flow: Flow) -> bool
-    ensures { result ≡ opens_plain flow }
-{
-    matches!(flow, Flow::OpensBlock | Flow::OpensLoop | Flow::OpensIf)
-}
-
-// Whether it is an `end`.
-#[inline(always)]
-fn is_end(flow: Flow) -> bool
-    ensures told { result ≡ is_end flow }
-    ensures end { result ≡ true → flow ≡ Flow.End }
-{
-    matches!(flow, Flow::End)
-}
-
-/// Reads operators as [`read_any`] does, as long as they are frequent ones, those that open a block, a loop or an `if`, or `end`s; says
-/// whether the last one ended the body. The loop stands here: the reading of frequent ones and of `end`s is inlined in it, for each kind
-/// anew, and what has so many copies is never inlined itself. An opening has a function of its own, as what it keeps on the stack has no
-/// part in that.
+/// Reads operators as [`read_any`] does, as long as they are frequent ones, those that open a block, a loop or an `if`, `else`s or `end`s;
+/// says whether the last one ended the body. The loop stands here: the reading of frequent ones and of `end`s is inlined in it, for each
+/// class anew, and what has so many copies is never inlined itself. What opens a block, and an `else`, have functions of their own, as what
+/// they keep on the stack has no part in that.
 ///
 /// # Errors
 ///
 /// As [`read_any`].
 #[inline(never)]
-#[tactic(auto, using(crate::proofs::Frequent::next_so, crate::proofs::Frequent::steady_so, crate::proofs::Frequent::opening_so, crate::proofs::Frequent::ending_so, crate::proofs::Running::runs_start))]
+#[tactic(auto, using(crate::proofs::Running::runs_start))]
 pub(crate) fn read_frequent<S: Scope, V: Validator>(
     scope: &S,
     alloc: Global,
@@ -260,13 +270,10 @@ pub(crate) fn read_frequent<S: Scope, V: Validator>(
     ensures entry { OnOk result (entry_of stack.new ≡ entry_of stack.old) }
 {
     loop {
-        let Some(entry) = reader.next_entry() else {
-            return Ok(false);
-        };
-        // The kind says of most that they go on, and of the others which they may be. Each returns by itself: where they met, what the
-        // others hold would be written for each.
-        match entry.kind {
-            Kind::Local => read_known(
+        // The class of its code tells how the next one is read, by one jump. Each returns by itself: where they met, what the others hold
+        // would be written for each.
+        match next_class(reader) {
+            Class::Local => read_known(
                 Kind::Local,
                 scope,
                 alloc,
@@ -275,7 +282,7 @@ pub(crate) fn read_frequent<S: Scope, V: Validator>(
                 validator,
                 code_start,
             )?,
-            Kind::Global => read_known(
+            Class::Global => read_known(
                 Kind::Global,
                 scope,
                 alloc,
@@ -284,7 +291,7 @@ pub(crate) fn read_frequent<S: Scope, V: Validator>(
                 validator,
                 code_start,
             )?,
-            Kind::Access => read_known(
+            Class::Load => read_known(
                 Kind::Access,
                 scope,
                 alloc,
@@ -293,7 +300,16 @@ pub(crate) fn read_frequent<S: Scope, V: Validator>(
                 validator,
                 code_start,
             )?,
-            Kind::I32 => read_known(
+            Class::Store => read_known(
+                Kind::Access,
+                scope,
+                alloc,
+                reader,
+                stack,
+                validator,
+                code_start,
+            )?,
+            Class::I32 => read_known(
                 Kind::I32,
                 scope,
                 alloc,
@@ -302,7 +318,7 @@ pub(crate) fn read_frequent<S: Scope, V: Validator>(
                 validator,
                 code_start,
             )?,
-            Kind::I64 => read_known(
+            Class::I64 => read_known(
                 Kind::I64,
                 scope,
                 alloc,
@@ -311,7 +327,7 @@ pub(crate) fn read_frequent<S: Scope, V: Validator>(
                 validator,
                 code_start,
             )?,
-            Kind::F64 => read_known(
+            Class::F64 => read_known(
                 Kind::F64,
                 scope,
                 alloc,
@@ -320,7 +336,7 @@ pub(crate) fn read_frequent<S: Scope, V: Validator>(
                 validator,
                 code_start,
             )?,
-            Kind::Bare if goes_on(entry.flow) => read_known(
+            Class::Plain => read_known(
                 Kind::Bare,
                 scope,
                 alloc,
@@ -329,7 +345,7 @@ pub(crate) fn read_frequent<S: Scope, V: Validator>(
                 validator,
                 code_start,
             )?,
-            Kind::Label if goes_on(entry.flow) => read_known(
+            Class::Chooses => read_known(
                 Kind::Label,
                 scope,
                 alloc,
@@ -338,7 +354,7 @@ pub(crate) fn read_frequent<S: Scope, V: Validator>(
                 validator,
                 code_start,
             )?,
-            Kind::Function if goes_on(entry.flow) => read_known(
+            Class::Calls => read_known(
                 Kind::Function,
                 scope,
                 alloc,
@@ -347,15 +363,28 @@ pub(crate) fn read_frequent<S: Scope, V: Validator>(
                 validator,
                 code_start,
             )?,
-            Kind::Bare if is_end(entry.flow) => {
-                if read_end(scope, alloc, reader, stack, validator, code_start)? {
+            Class::End => {
+                if read_part(
+                    Flow::End,
+                    scope,
+                    alloc,
+                    reader,
+                    stack,
+                    validator,
+                    code_start,
+                )? {
                     return Ok(true);
                 }
             }
-            Kind::Block if is_opening(entry.flow) => read_opening(
-                entry.flow, scope, alloc, reader, stack, validator, code_start,
-            )?,
-            _ => return Ok(false),
+            Class::Else => {
+                if read_else(scope, alloc, reader, stack, validator, code_start)? {
+                    return Ok(true);
+                }
+            }
+            Class::Opens(flow) => {
+                read_opening(flow, scope, alloc, reader, stack, validator, code_start)?
+            }
+            Class::Rare => return Ok(false),
         }
     }
 }

@@ -4,10 +4,10 @@ ghost use Rattle.std.specs.Prelude.{◌≡◌, ◌≤◌, ◌<◌, [], ◌∷◌
 ghost use Rattle.std.specs.Option.{option_map};
 ghost use Rattle.std.specs.Vec.{vec_len, vec_capacity};
 ghost use Rattle.walrus_body_nesting.specs.declared.frames.Reach.TheVariants.{Cut as cut_reach};
-ghost use Rattle.walrus_body_stack.specs.Held.{IsLeft, added, as_frame, bare, emptied, entered, seqs_in};
+ghost use Rattle.walrus_body_stack.specs.Held.{IsLeft, added, as_frame, bare, emptied, entered, seqs_in, turned};
 ghost use Rattle.walrus_body_stack.specs.Slots.{further, lower};
 
-use crate::frame::Frame;
+use crate::frame::{Frame, Sort, next_reach};
 use crate::pile::Pile;
 use std::alloc::{AllocError, Global};
 use std::marker::Model;
@@ -190,11 +190,14 @@ impl Nest {
         self.inner.frame.reach
     }
 
-    /// Puts this in place of what the innermost is; it keeps its instructions.
-    pub(crate) fn set(&mut self, frame: Frame)
-        ensures { self.new ≡ as_frame frame self.old }
+    /// Goes on with this sequence, as this part of the innermost block; it keeps its instructions.
+    #[inline(always)]
+    pub(crate) fn turn(&mut self, seq: InstrSeqId, sort: Sort)
+        ensures { self.new ≡ as_frame (turned seq sort self.old.inner.frame) self.old }
     {
-        self.inner.frame = frame;
+        self.inner.frame.seq = seq;
+        self.inner.frame.sort = sort;
+        self.inner.frame.reach = next_reach(self.inner.frame.reach);
     }
 
     /// Says that nothing that follows in the innermost is reached.
@@ -250,7 +253,7 @@ impl Nest {
         let Ok(begin) = u16::try_from(self.list.len()) else {
             return Err(AllocError);
         };
-        self.outer.push(self.inner)?;
+        self.outer.push_copy(&self.inner)?;
         self.inner = Slot {
             frame,
             begin,

@@ -99,6 +99,19 @@ impl<T: Drop> Pile<T> {
 }
 
 impl<T: Copy + Drop> Pile<T> {
+    /// Puts a copy of this on top. Where there is room for it first, it is copied at once, not part by part.
+    #[inline(always)]
+    pub(crate) fn push_copy(&mut self, item: &T) -> Result<(), AllocError>
+        ensures pushed { OnOk result (self.new ≡ item.now ∷ self.old) }
+        ensures refused { OnErr result (self.new ≡ self.old) }
+    {
+        if self.items.len() == self.items.capacity() {
+            grow(&mut self.items)?;
+        }
+        self.items.push_reserved(*item);
+        Ok(())
+    }
+
     /// The item that lies below so many others.
     #[inline(always)]
     pub(crate) fn at(&self, depth: usize) -> Option<T>

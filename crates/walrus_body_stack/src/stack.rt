@@ -233,6 +233,7 @@ impl Stack {
     }
 
     // Gives the innermost sequence its instructions, and its end this location.
+    #[inline(always)]
     pub(crate) fn close(&mut self, place: InstrLocId) -> Result<(), AllocError>
         requires { self.old.nest.inner.frame.seq < length (blocks self.old) }
         ensures ty { heading_of self.new ≡ heading_of self.old }

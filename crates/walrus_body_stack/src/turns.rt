@@ -10,7 +10,7 @@ ghost use Rattle.walrus_body_nesting.specs.Opens.{Shaped};
 ghost use Rattle.walrus_body_stack.specs.Frames.{IsTested, IsTurned, blocks, delegate_test, filled, handler_test, heading_of, inner, is_then, opens, other_test};
 ghost use Rattle.walrus_body_stack.specs.Held.{as_frame, emptied, turned};
 
-use crate::frame::{Frame, Sort, next_reach};
+use crate::frame::Sort;
 use crate::handlers::Handlers;
 use crate::stack::Stack;
 use std::alloc::AllocError;
@@ -28,6 +28,7 @@ impl Sort {
 
 impl Stack {
     // Closes the innermost sequence, and gives an empty one of this type to go on with.
+    #[inline(always)]
     fn next_part(&mut self, place: InstrLocId, ty: InstrSeqType) -> Result<InstrSeqId, AllocError>
         requires { self.old.nest.inner.frame.seq < length (blocks self.old) }
         ensures ty { OnOk result (heading_of self.new ≡ heading_of self.old) }
@@ -46,15 +47,7 @@ impl Stack {
     fn turn(&mut self, seq: InstrSeqId, sort: Sort)
         ensures { self.new ≡ record self.old { nest = as_frame (turned seq sort self.old.nest.inner.frame) self.old.nest } }
     {
-        let frame = self.nest.frame();
-        self.nest.set(Frame {
-            ty: frame.ty,
-            place: frame.place,
-            first: frame.first,
-            seq,
-            sort,
-            reach: next_reach(frame.reach),
-        });
+        self.nest.turn(seq, sort);
     }
 
     // Keeps the handlers of the innermost legacy `try`.

@@ -8,7 +8,7 @@ use Rattle.walrus_body_locals.specs.walrus_body_nesting.Stands.{place_in}
 use Rattle.walrus_body_parser.specs.Points.{place_at}
 use Rattle.walrus_body_parser.proofs.Takes.{offset_is}
 use Rattle.walrus_body_parser.proofs.Reading.{items_refused, change_refused, told_refused, next_read, place_is}
-use Rattle.walrus_body_parser.proofs.operators.read_end.Goals as goal
+use Rattle.walrus_body_parser.proofs.operators.read_part.Goals as goal
 
 pub overflow_cast-offset : goal.overflow_cast-offset
 overflow_cast-offset g c = let e = c.requires.ends in let w = c.requires.within in omega (arith, e, w, c.original_position-offset.ensures)
@@ -51,7 +51,7 @@ returns-clause-read g c =
 pub next_known-requires-clause-next : goal.next_known-requires-clause-next
 next_known-requires-clause-next g c = let h = c.requires.next in (h.0, h.1, h.2)
 
-pub end_of-requires-clause-ends : goal.end_of-requires-clause-ends
-end_of-requires-clause-ends g c =
+pub part_of-requires-clause-does : goal.part_of-requires-clause-does
+part_of-requires-clause-does g c =
     let h = c.requires.next in
     ap (λ (o : Option Row). flow_in o) (c.in_ok-op.ensures.entry h.0 h.1) ∙ ap (λ (f : Flow). let some : Option Flow = Some f in some) h.3
