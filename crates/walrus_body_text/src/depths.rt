@@ -3,7 +3,7 @@
 ghost use Rattle.std.specs.Prelude.{◌≡◌, ◌+◌, ◌-◌, length, replicate, slice_set, IfOk, OnOk};
 ghost use Rattle.std.specs.Bool.{OnTrue};
 ghost use Rattle.walrus_tree.specs.declared.marks.Mark.TheVariants.{Fresh, Open, Done};
-ghost use Rattle.walrus_tree.specs.Testing.{within};
+ghost use Rattle.walrus_tree.specs.Testing.{open_at, within};
 ghost use Rattle.walrus_body_text.specs.Doing.{label_by};
 ghost use Rattle.walrus_body_text.specs.Tested.{may_enter, names_labels};
 
@@ -53,6 +53,30 @@ fn set_depth(depths: &mut [u32], id: InstrSeqId, depth: u32)
     let index = id.index();
     if index < depths.len() {
         depths[index] = depth;
+    }
+}
+
+// Whether the sequence is open.
+#[inline(always)]
+fn is_open(marks: &[Mark], id: InstrSeqId) -> bool
+    ensures { result ≡ open_at marks.now id }
+{
+    let index = id.index();
+    if index >= marks.len() {
+        return false;
+    }
+    matches!(marks[index], Mark::Open)
+}
+
+// Whether each label of the instruction names a sequence that is open, of which there are so many. Branches are tested here.
+#[inline(always)]
+fn is_within_here(instr: &Instr, marks: &[Mark], depth: usize) -> bool
+    ensures { result ≡ within marks.now depth instr.now }
+{
+    match instr {
+        Instr::Br { block } => is_open(marks, *block),
+        Instr::BrIf { block } => is_open(marks, *block),
+        _ => is_within(instr, marks, depth),
     }
 }
 
@@ -134,7 +158,7 @@ impl Depths {
         if !names_labels(instr) {
             return true;
         }
-        is_within(instr, self.marks.as_slice(), self.height as usize)
+        is_within_here(instr, self.marks.as_slice(), self.height as usize)
     }
 
     /// The number of a label: how many sequences lie between it and here. Takes no more time where more are open.
