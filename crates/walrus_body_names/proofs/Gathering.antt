@@ -24,6 +24,9 @@ or_false : (v : Bool) → v ≡ (v || false)
 or_false true = refl
 or_false false = refl
 
+pub or_none : (v w : Bool) → w ≡ false → v ≡ (v || w)
+or_none v w is = or_false v ∙ ap (λ (z : Bool). v || z) (sym is)
+
 any_append : (v : Bool) (xs ys : List ℕ) → ((v || has_any xs) || has_any ys) ≡ (v || has_any (xs ++ ys))
 any_append true xs ys = refl
 any_append false [] ys = refl

@@ -1,11 +1,12 @@
 -- Lists that have the same names.
-use Rattle.std.proofs.Common.{ℕ, ◌≡◌, List, [], ◌∷◌, ◌++◌, Option, Some, sym, ap, subst, ◌∙◌, append-nil}
+use Rattle.std.proofs.Common.{ℕ, ◌≡◌, refl, List, [], ◌∷◌, ◌++◌, Option, Some, sym, ap, subst, ◌∙◌, append-nil}
 use Rattle.std.specs.Prelude.{Contains, slice_get, ◌⊎◌, get_or}
+use Rattle.std.specs.Bool.{OnTrue}
 use Rattle.std.specs.Option.{unwrap_or}
 use Rattle.std.proofs.Common.{inl, inr}
 use Rattle.std.proofs.lemmas.List.Elements.{Contains-append_cases, Contains-append_left, Contains-append_right, Contains-get_or, Contains-push_cases}
 use Rattle.std.proofs.lemmas.Option.{slice_get_within, unwrap_or-slice_get}
-use Rattle.walrus_body_names.specs.Names.{HaveSame}
+use Rattle.walrus_body_names.specs.Names.{HaveSame, has_any}
 
 pub at_is : (xs : List ℕ) (p x : ℕ) → slice_get xs p ≡ Some x → Contains xs x
 at_is xs p x is =
@@ -40,3 +41,8 @@ same_then xs ys zs f g = λ k. ((λ c. (g k).0 ((f k).0 c)), (λ c. (f k).1 ((g 
 -- what an instruction names was gathered, if it names something
 pub told_none : (old names : List ℕ) → [] ≡ names → HaveSame old (old ++ names)
 told_none old names is = same_lists old (old ++ names) (sym (append-nil old) ∙ ap (λ (z : List ℕ). old ++ z) is)
+
+-- the local that an instruction names is there, if it names one
+pub told_if : (old names : List ℕ) (id : ℕ) → OnTrue (has_any names) (names ≡ id ∷ []) → Contains old id → HaveSame old (old ++ names)
+told_if old [] id h c = told_none old [] refl
+told_if old (x ∷ xs) id h c = subst (λ (z : List ℕ). HaveSame old (old ++ z)) (sym h) (there old id c)

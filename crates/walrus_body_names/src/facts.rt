@@ -1,6 +1,6 @@
 //! What is known of a body before it is written.
 
-ghost use Rattle.std.specs.Prelude.{◌≡◌, ◌++◌, ◌∷◌, [], slice_get, Contains, IfErr, IfOk, OnErr, OnOk};
+ghost use Rattle.std.specs.Prelude.{◌≡◌, ◌++◌, ◌∷◌, [], ◌||◌, false, slice_get, Contains, IfErr, IfOk, OnErr, OnOk};
 ghost use Rattle.std.specs.Bool.{OnTrue};
 ghost use Rattle.walrus_body_writer.specs.walrus_tree.walrus_builder.Functions.{seqs_of};
 ghost use Rattle.walrus_body_writer.specs.walrus_tree.Text.{operators};
@@ -10,7 +10,7 @@ ghost use Rattle.walrus_body_writer.specs.walrus_body_text.Visiting.{text_size};
 ghost use Rattle.walrus_body_names.specs.Names.{AreSet, HaveSame, are_constants, has_any, is_constant, local_in, segment_in, text_names};
 
 use crate::distinct::distinct;
-use crate::names::{local_of, named_segments, segment_of};
+use crate::names::{local_of, local_or, named_segments, names_segment};
 use std::alloc::{AllocError, Global};
 use walrus_arena::{DataId, LocalId};
 use walrus_body_writer::body_env::BodyError;
@@ -46,6 +46,8 @@ struct Facts {
     found: Vec<LocalId>,
     // By a local's number, a place where it may have been found.
     hints: Vec<usize>,
+    // The local that was put there last, if there is one. Where an instruction names none, the hint of this one is tested.
+    last: LocalId,
 }
 
 // Whether a hint shows that the local is among these.
@@ -67,8 +69,7 @@ fn is_there(found: &[LocalId], hints: &[usize], id: LocalId) -> bool
     false
 }
 
-// Puts the local behind those that were found. It isn't inlined, as mostly it is among them.
-#[inline(never)]
+// Puts the local behind those that were found.
 fn add(found: &mut Vec<LocalId>, hints: &mut Vec<usize>, id: LocalId) -> Result<(), AllocError>
     ensures told { OnOk result (HaveSame found.new.items (found.old.items ++ id ∷ [])) }
     ensures refused { OnErr result (found.new.items ≡ found.old.items) }
@@ -86,7 +87,6 @@ fn add(found: &mut Vec<LocalId>, hints: &mut Vec<usize>, id: LocalId) -> Result<
 }
 
 // The same, if no hint shows that it is among them.
-#[inline(always)]
 fn gather(found: &mut Vec<LocalId>, hints: &mut Vec<usize>, id: LocalId) -> Result<(), AllocError>
     ensures told { OnOk result (HaveSame found.new.items (found.old.items ++ id ∷ [])) }
     ensures refused { OnErr result (found.new.items ≡ found.old.items) }
@@ -98,7 +98,6 @@ fn gather(found: &mut Vec<LocalId>, hints: &mut Vec<usize>, id: LocalId) -> Resu
 }
 
 // Gathers the local that an instruction names, if it names one.
-#[inline(always)]
 fn gather_named(
     found: &mut Vec<LocalId>,
     hints: &mut Vec<usize>,
@@ -113,6 +112,67 @@ fn gather_named(
     }
 }
 
+// Whether nothing is to be done for an instruction: it names no data segment, and a hint shows its local, if it names one. Else the
+// local found last is looked for in its place, so that no jump depends on whether it names one.
+#[inline(always)]
+#[tactic(auto, using(crate::proofs::Same::told_if))]
+fn is_told(found: &[LocalId], hints: &[usize], last: &LocalId, instr: &Instr) -> bool
+    ensures unmarked { OnTrue result (has_any (segment_in instr.now) ≡ false) }
+    ensures told { OnTrue result (HaveSame found.now (found.now ++ local_in instr.now)) }
+{
+    if !is_there(found, hints, *local_or(instr, last)) {
+        return false;
+    }
+    if names_segment(instr) {
+        return false;
+    }
+    true
+}
+
+// The last, or else this one.
+fn last_or(found: &[LocalId], other: LocalId) -> LocalId {
+    match found.last() {
+        Some(last) => *last,
+        None => other,
+    }
+}
+
+// Gathers what an instruction names. It isn't inlined, as mostly there is nothing to do.
+#[inline(never)]
+fn gather_all(facts: &mut Facts, instr: &Instr) -> Result<(), AllocError>
+    ensures counted { facts.new.size ≡ facts.old.size }
+    ensures marked { OnOk result (facts.new.names_segment ≡ (facts.old.names_segment || has_any (segment_in instr.now))) }
+    ensures told { OnOk result (HaveSame facts.new.found.items (facts.old.found.items ++ local_in instr.now)) }
+    ensures unmarked { OnErr result (facts.new.names_segment ≡ facts.old.names_segment) }
+    ensures refused { OnErr result (facts.new.found.items ≡ facts.old.found.items) }
+{
+    gather_named(&mut facts.found, &mut facts.hints, instr)?;
+    facts.names_segment = facts.names_segment || names_segment(instr);
+    facts.last = last_or(facts.found.as_slice(), facts.last);
+    Ok(())
+}
+
+// The same, most often straight.
+#[inline(always)]
+#[tactic(auto, using(crate::proofs::Gathering::or_none))]
+fn note(facts: &mut Facts, instr: &Instr) -> Result<(), AllocError>
+    ensures counted { facts.new.size ≡ facts.old.size }
+    ensures marked { OnOk result (facts.new.names_segment ≡ (facts.old.names_segment || has_any (segment_in instr.now))) }
+    ensures told { OnOk result (HaveSame facts.new.found.items (facts.old.found.items ++ local_in instr.now)) }
+    ensures unmarked { OnErr result (facts.new.names_segment ≡ facts.old.names_segment) }
+    ensures refused { OnErr result (facts.new.found.items ≡ facts.old.found.items) }
+{
+    if is_told(
+        facts.found.as_slice(),
+        facts.hints.as_slice(),
+        &facts.last,
+        instr,
+    ) {
+        return Ok(());
+    }
+    gather_all(facts, instr)
+}
+
 impl TextVisitor for Facts {
     ghost use Rattle.walrus_body_names.specs.Facts.{IsAsBefore, IsTold};
 
@@ -125,8 +185,7 @@ impl TextVisitor for Facts {
         let Some(size) = self.size.checked_add(1) else {
             return Err(AllocError);
         };
-        gather_named(&mut self.found, &mut self.hints, instr)?;
-        self.names_segment = self.names_segment || segment_of(instr).is_some();
+        note(self, instr)?;
         self.size = size;
         Ok(())
     }
@@ -155,6 +214,7 @@ pub fn emit_facts(alloc: Global, body: &FunctionBuilder) -> Result<FunctionFacts
         names_segment: false,
         found: Vec::new(alloc),
         hints,
+        last: LocalId::from_index(0),
     };
     visit_once(alloc, &mut facts, body)?;
     let Facts {

@@ -1,12 +1,13 @@
 //! What the operators of a body name.
 
-ghost use Rattle.std.specs.Prelude.{◌≡◌, IfOk, IfErr, OnOk};
+ghost use Rattle.std.specs.Prelude.{◌≡◌, ◌∷◌, [], true, IfOk, IfErr, OnOk};
+ghost use Rattle.std.specs.Bool.{OnTrue};
 ghost use Rattle.std.specs.Option.{option_to_list};
 ghost use Rattle.walrus_body_writer.specs.walrus_tree.walrus_builder.Functions.{seqs_of};
 ghost use Rattle.walrus_body_writer.specs.walrus_tree.Text.{operators};
 ghost use Rattle.walrus_body_writer.specs.walrus_tree.Trees.{IsTree};
 ghost use Rattle.walrus_body_writer.specs.walrus_body_text.Walking.{IsCause};
-ghost use Rattle.walrus_body_names.specs.Names.{local_in, segment_in, text_names};
+ghost use Rattle.walrus_body_names.specs.Names.{has_any, local_in, segment_in, text_names};
 
 use std::alloc::{AllocError, Global};
 use walrus_arena::{DataId, LocalId};
@@ -38,6 +39,57 @@ pub(crate) fn local_of(instr: &Instr) -> Option<LocalId>
         Instr::LocalTee { local } => Some(*local),
         _ => None,
     }
+}
+
+// Whether it names a local.
+#[inline]
+fn names_local(instr: &Instr) -> bool
+    ensures { result ≡ has_any (local_in instr.now) }
+{
+    matches!(
+        instr,
+        Instr::LocalGet { .. } | Instr::LocalSet { .. } | Instr::LocalTee { .. }
+    )
+}
+
+// The local that it names.
+#[inline]
+fn local_at(instr: &Instr) -> &LocalId
+    requires { has_any (local_in instr.now) ≡ true }
+    ensures { local_in instr.now ≡ result.now ∷ [] }
+{
+    match instr {
+        Instr::LocalGet { local } => local,
+        Instr::LocalSet { local } => local,
+        Instr::LocalTee { local } => local,
+        _ => unreachable!(),
+    }
+}
+
+/// The local that an instruction names, or else this one. No jump depends on which it is.
+#[inline(always)]
+pub(crate) fn local_or<'a>(instr: &'a Instr, other: &'a LocalId) -> &'a LocalId
+    ensures { OnTrue (has_any (local_in instr.now)) (local_in instr.now ≡ result.now ∷ []) }
+{
+    if names_local(instr) {
+        local_at(instr)
+    } else {
+        other
+    }
+}
+
+/// Whether it names a data segment.
+#[inline(always)]
+pub(crate) fn names_segment(instr: &Instr) -> bool
+    ensures { result ≡ has_any (segment_in instr.now) }
+{
+    matches!(
+        instr,
+        Instr::MemoryInit { .. }
+            | Instr::DataDrop { .. }
+            | Instr::ArrayNewData { .. }
+            | Instr::ArrayInitData { .. }
+    )
 }
 
 // Gathers data segments.
