@@ -3,7 +3,7 @@
 ghost use Rattle.std.specs.Prelude.{◌≡◌, ℕ, [], ◌∷◌, List, None, slice_get};
 ghost use Rattle.wasm_immediates.specs.Items.{Space as Of, Access, Bits, Block, Byte, Functions, Globals, Labels, Locals, Names, Number, S32, S64};
 ghost use Rattle.walrus_operator_writer.specs.Appended.{Appends};
-ghost use Rattle.walrus_operator_writer.specs.wasm_operator_bytes.Bytes.{operator_bytes};
+ghost use Rattle.walrus_operator_writer.specs.wasm_operator_bytes.Bytes.{code_bytes, item_bytes, operator_bytes};
 ghost use Rattle.walrus_pairing.specs.walrus_operator_codes.Runs as codes;
 ghost use Rattle.walrus_pairing.specs.Looks.{Look, word};
 ghost use Rattle.walrus_pairing.specs.Write.{access, access_of, constant, lane_items, log_of, one, op, seen_of};
@@ -36,6 +36,56 @@ use wasm_operators::OpCode;
 // What puts one operator behind the bytes, or a part of it where memory is refused.
 type Done = Result<(), AllocError>;
 
+// A byte, where there is no room for it. It isn't inlined, as mostly there is some.
+#[inline(never)]
+fn grow_by(bytes: &mut Vec<u8>, byte: u8) -> Done
+    ensures { Appends (byte ∷ []) bytes.old.items bytes.new.items result }
+{
+    write_byte(bytes, byte)
+}
+
+// A byte.
+#[inline(always)]
+fn put_byte(bytes: &mut Vec<u8>, byte: u8) -> Done
+    ensures { Appends (byte ∷ []) bytes.old.items bytes.new.items result }
+{
+    if bytes.len() < bytes.capacity() {
+        bytes.push_reserved(byte);
+        return Ok(());
+    }
+    grow_by(bytes, byte)
+}
+
+// A code behind a prefix.
+#[inline(never)]
+fn put_long(bytes: &mut Vec<u8>, code: OpCode) -> Done
+    ensures { Appends (code_bytes code) bytes.old.items bytes.new.items result }
+{
+    write_code(bytes, code)
+}
+
+// The code of an operator, which mostly is a byte.
+#[inline(always)]
+fn put_code(bytes: &mut Vec<u8>, code: OpCode) -> Done
+    ensures { Appends (code_bytes code) bytes.old.items bytes.new.items result }
+{
+    if code.prefix == 0 {
+        return put_byte(bytes, (code.number % 0x100) as u8);
+    }
+    put_long(bytes, code)
+}
+
+// The type of a block, which mostly has none.
+#[inline(always)]
+fn put_type(bytes: &mut Vec<u8>, ty: BlockType) -> Done
+    ensures { Appends (item_bytes (Block ty)) bytes.old.items bytes.new.items result }
+{
+    match ty {
+        BlockType::Empty => put_byte(bytes, 0x40),
+        _ => write_block_type(bytes, ty),
+    }
+}
+
 // An operator with one number.
 #[inline(always)]
 #[tactic(auto, using(crate::proofs::Straight::one_item))]
@@ -60,7 +110,7 @@ fn append_byte(bytes: &mut Vec<u8>, code: OpCode, lane: u8) -> Done
 fn append_bare(bytes: &mut Vec<u8>, code: OpCode) -> Done
     ensures { Appends (operator_bytes (seen_of code [])) bytes.old.items bytes.new.items result }
 {
-    write_code(bytes, code)
+    put_code(bytes, code)
 }
 
 #[inline(always)]
@@ -68,7 +118,7 @@ fn append_bare(bytes: &mut Vec<u8>, code: OpCode) -> Done
 fn append_place(bytes: &mut Vec<u8>, code: OpCode, access: MemoryAccess) -> Done
     ensures { Appends (operator_bytes (seen_of code (Access access ∷ []))) bytes.old.items bytes.new.items result }
 {
-    write_code(bytes, code)?;
+    put_code(bytes, code)?;
     write_access(bytes, access)
 }
 
@@ -77,7 +127,7 @@ fn append_place(bytes: &mut Vec<u8>, code: OpCode, access: MemoryAccess) -> Done
 fn append_i32(bytes: &mut Vec<u8>, n: i32) -> Done
     ensures { Appends (operator_bytes (seen_of (codes.byte 0x41) (S32 n ∷ []))) bytes.old.items bytes.new.items result }
 {
-    write_code(bytes, byte(0x41))?;
+    put_code(bytes, byte(0x41))?;
     write_signed(bytes, i64::from(n))
 }
 
@@ -86,7 +136,7 @@ fn append_i32(bytes: &mut Vec<u8>, n: i32) -> Done
 fn append_i64(bytes: &mut Vec<u8>, n: i64) -> Done
     ensures { Appends (operator_bytes (seen_of (codes.byte 0x42) (S64 n ∷ []))) bytes.old.items bytes.new.items result }
 {
-    write_code(bytes, byte(0x42))?;
+    put_code(bytes, byte(0x42))?;
     write_signed(bytes, n)
 }
 
@@ -95,7 +145,7 @@ fn append_i64(bytes: &mut Vec<u8>, n: i64) -> Done
 fn append_f32(bytes: &mut Vec<u8>, bits: u32) -> Done
     ensures { Appends (operator_bytes (seen_of (codes.byte 0x43) (Bits 4 bits ∷ []))) bytes.old.items bytes.new.items result }
 {
-    write_code(bytes, byte(0x43))?;
+    put_code(bytes, byte(0x43))?;
     write_bits32(bytes, bits)
 }
 
@@ -104,7 +154,7 @@ fn append_f32(bytes: &mut Vec<u8>, bits: u32) -> Done
 fn append_f64(bytes: &mut Vec<u8>, bits: u64) -> Done
     ensures { Appends (operator_bytes (seen_of (codes.byte 0x44) (Bits 8 bits ∷ []))) bytes.old.items bytes.new.items result }
 {
-    write_code(bytes, byte(0x44))?;
+    put_code(bytes, byte(0x44))?;
     write_bits64(bytes, bits)
 }
 
@@ -113,8 +163,8 @@ fn append_f64(bytes: &mut Vec<u8>, bits: u64) -> Done
 fn append_block(bytes: &mut Vec<u8>, code: OpCode, ty: BlockType) -> Done
     ensures { Appends (operator_bytes (seen_of code (Block ty ∷ []))) bytes.old.items bytes.new.items result }
 {
-    write_code(bytes, code)?;
-    write_block_type(bytes, ty)
+    put_code(bytes, code)?;
+    put_type(bytes, ty)
 }
 
 // An operator with a name, if that has a number.
