@@ -7,7 +7,7 @@ mod lists;
 mod order;
 
 pub use give::give_types;
-pub use walrus_handlers::{AnyHandler, Handler, handlers};
+pub use walrus_handlers::{AnyHandler, Handler, handlers, handlers_if};
 
 // Passed on to crates above, which then list this one alone.
 pub mod tree {

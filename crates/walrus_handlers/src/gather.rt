@@ -1,6 +1,6 @@
 //! Which sequences of a body are handlers, and of what.
 
-ghost use Rattle.std.specs.Prelude.{◌≡◌, ◌≤◌, ◌^◌, ℕ, [], ◌∷◌, IfOk, None, Option, length, map, replicate};
+ghost use Rattle.std.specs.Prelude.{◌≡◌, ◌≤◌, ◌^◌, ℕ, [], ◌∷◌, IfOk, None, Option, false, length, map, replicate};
 ghost use Rattle.walrus_handlers.specs.Gathering.{AreHandlers, has_try, have_try, is_try, put, put_all};
 ghost use Rattle.walrus_handler_laws.specs.Handlers.{known_handler, part_slots, slots, slots_in, tree_ids};
 ghost use Rattle.walrus_handler_laws.specs.walrus_body_steps.walrus_body_nesting.Opens.{type_at};
@@ -245,4 +245,26 @@ pub fn handlers<E: BodyEnv>(
     let start = body.func_body_id();
     dfs_in_order(alloc, &mut gatherer, body, start)?;
     Ok(gatherer.told)
+}
+
+/// The same of a body that has no legacy `try` where `any` is false: then its instructions aren't gone through.
+///
+/// # Errors
+///
+/// Want of memory.
+pub fn handlers_if<E: BodyEnv>(
+    alloc: Global,
+    env: &E,
+    body: &FunctionBuilder,
+    any: bool,
+) -> Result<Vec<Option<Handler>>, AllocError>
+    requires tree { IsTree (seqs_of body.now) 0 }
+    requires untried { any ≡ false → have_try (seqs_of body.now) ≡ false }
+    ensures told { IfOk result (λ hs. (t : IsTree (seqs_of body.now) 0) → AreHandlers (E.tag_type env.now) (seqs_of body.now) (tree_ids t) hs.items) }
+    ensures ids { IfOk result (λ hs. length hs.items ≤ 2 ^ 32) }
+{
+    if any {
+        return handlers(alloc, env, body);
+    }
+    Ok(Vec::new(alloc))
 }

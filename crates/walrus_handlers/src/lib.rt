@@ -5,7 +5,7 @@ mod any;
 mod gather;
 
 pub use any::AnyHandler;
-pub use gather::handlers;
+pub use gather::{handlers, handlers_if};
 pub use walrus_handler_laws::{Handler, laws};
 
 // Passed on to crates above, which then list this one alone.

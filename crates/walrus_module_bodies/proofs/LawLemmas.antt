@@ -11,7 +11,6 @@ use Rattle.walrus_body_trees.specs.Laws as trees
 use Rattle.walrus_body_trees.specs.walrus_body_text.Visiting.{text_size}
 use Rattle.walrus_forms.specs.declared.value.ValType.{ValType}
 use Rattle.walrus_module_env.specs.walrus_body_parser.walrus_body_stack.walrus_instr.walrus_types.Table.{Table}
-use Rattle.walrus_function_types.specs.FunctionTypes.{params_at}
 use Rattle.walrus_function_types.specs.Growth.{EntryTypesGrow, FoundTypesStay, TablesGrowOn}
 use Rattle.walrus_function_types.proofs.GrowthLemmas.{grows_same}
 use Rattle.walrus_module_env.proofs.walrus_handler_types.Growing.{params_grow}
@@ -28,7 +27,7 @@ use Rattle.walrus_module_env.specs.walrus_body_parser.walrus_body_stack.walrus_b
 use Rattle.walrus_module_env.specs.declared.env.ModuleEnv.{ModuleEnv}
 use Rattle.walrus_module_env.specs.Around.{IsFiled, sight_in}
 use Rattle.walrus_module_env.specs.walrus_body_parser.Points.{place_at}
-use Rattle.walrus_module_env.specs.walrus_collections.walrus_local_function.walrus_body_locals.Locals.{ids_from, with_more}
+use Rattle.walrus_module_env.specs.walrus_collections.walrus_local_function.walrus_body_locals.Locals.{ids_from}
 use Rattle.walrus_module_env.specs.walrus_collections.walrus_module_items.declared.function.Function.{Function}
 use Rattle.walrus_module_env.specs.walrus_collections.walrus_module_items.declared.function.FunctionKind.TheVariants as kinds
 use Rattle.walrus_module_env.specs.walrus_collections.walrus_module_items.Functions.{type_of}
@@ -36,7 +35,7 @@ use Rattle.walrus_module_env.specs.walrus_functions_into.declared.bodies.Functio
 use Rattle.walrus_module_env.specs.wasm_run_names.Picks.{block_pick}
 use Rattle.walrus_module_bodies.specs.declared.file.FileEnv.{FileEnv}
 use Rattle.walrus_module_bodies.specs.Envs.{IsEnv}
-use Rattle.walrus_module_bodies.specs.Laws.{AreCodesOf, AreRead, BodiesHoldTheirs, IsCodeOf, NamesAll, StepsReadCodes}
+use Rattle.walrus_module_bodies.specs.Laws.{AreCodesOf, AreRead, BodiesHoldTheirs, IsCodeOf, StepsReadCodes}
 use Rattle.walrus_module_bodies.specs.Steps.{AreApart, IsModuleOf, IsReady, IsStep, State, Steps, cursor_of}
 use Rattle.walrus_module_bodies.proofs.ArgumentLemmas.{many_ids}
 use Rattle.walrus_module_bodies.proofs.BodyLemmas.{placed_there}

@@ -1,5 +1,5 @@
 -- Lemmas: a body that was read beside some type for each handler, and whose handlers were given theirs, is read.
-use Rattle.std.proofs.Common.{◌≡◌, ◌∙◌, ℕ, ◌<◌, List, length, map, All, Ok, Option, refl, sym, ap, subst}
+use Rattle.std.proofs.Common.{◌≡◌, ◌∙◌, ℕ, ◌<◌, Bool, false, List, length, map, All, Ok, Option, refl, sym, ap, subst}
 use Rattle.std.specs.Option.{option_and_then, option_map}
 use Rattle.std.specs.Prelude.{slice_get}
 use Rattle.walrus_arena.specs.Arena.{Arena, item_at}
@@ -9,7 +9,7 @@ use Rattle.walrus_index_maps.specs.Maps.{Ids}
 use Rattle.walrus_body_trees.specs.Laws.{BodiesAreTrees}
 use Rattle.walrus_module_env.specs.walrus_handler_types.Giving.{Gives, GivesTree}
 use Rattle.walrus_module_env.proofs.walrus_handler_types.Growing.{lists_give}
-use Rattle.walrus_module_env.specs.walrus_handler_types.walrus_handlers.Gathering.{AreHandlers, listed}
+use Rattle.walrus_module_env.specs.walrus_handler_types.walrus_handlers.Gathering.{AreHandlers, have_try, listed}
 use Rattle.walrus_module_env.specs.walrus_handler_types.walrus_handler_laws.Handlers.{tree_ids}
 use Rattle.walrus_module_env.specs.walrus_handler_types.walrus_handler_laws.declared.handler.Handler.{Handler}
 use Rattle.walrus_module_env.specs.walrus_body_parser.walrus_body_steps.Picks.{ArePicks}
@@ -137,3 +137,7 @@ module _ (tags : ℕ → Option ℕ) (x y z : FunctionBuilder) (to_y : y ≡ x) 
 -- a tree is one in what was lent
 pub lent_tree : (x z : FunctionBuilder) → z ≡ x → IsTree (seqs_of x) 0 → IsTree (seqs_of z) 0
 lent_tree x z e t = subst (λ (f : FunctionBuilder). IsTree (seqs_of f) 0) (sym e) t
+
+-- where no `try` was met, what was lent has none
+pub lent_untried : (x y : FunctionBuilder) → y ≡ x → (any : Bool) → (any ≡ false → have_try (seqs_of x) ≡ false) → any ≡ false → have_try (seqs_of y) ≡ false
+lent_untried x y e any h none = subst (λ (f : FunctionBuilder). have_try (seqs_of f) ≡ false) (sym e) (h none)

@@ -43,7 +43,7 @@ use Rattle.walrus_module_env.specs.walrus_body_parser.Trees.{FailOps, IsDue, Par
 use Rattle.walrus_module_env.specs.walrus_collections.walrus_local_function.walrus_body_locals.Locals.{Leaves, run_told}
 use Rattle.walrus_module_env.specs.walrus_collections.walrus_local_function.walrus_body_locals.Told.{Fails as Refused}
 use Rattle.walrus_module_env.specs.walrus_collections.walrus_module_items.declared.tag.Tag.{Tag}
-use Rattle.walrus_module_env.specs.walrus_collections.walrus_local_function.walrus_function_parser.Parsed.{Bars, IsAround, IsCause, IsRefused, Lacks, Refuses, StopsFor, Telling, seen_by}
+use Rattle.walrus_module_env.specs.walrus_collections.walrus_local_function.walrus_function_parser.Parsed.{Bars, IsAround, IsCause, IsRefused, Lacks, Refuses, StopsFor, Telling}
 use Rattle.walrus_module_env.specs.Handled.{SeesAside}
 use Rattle.walrus_module_bodies.specs.Reading.{IsBodyFault, TagsStand}
 use Rattle.walrus_module_bodies.proofs.AsideLemmas.{sees_aside}

@@ -2,6 +2,7 @@ pub mod Envs
 pub mod Laws
 pub mod Reading
 pub mod Steps
+pub mod TryCodes
 -- Passed on to crates above, which then list this one alone.
 pub use Rattle.walrus_module_env.specs.walrus_locations as walrus_locations
 pub use Rattle.walrus_module_env.specs as walrus_module_env

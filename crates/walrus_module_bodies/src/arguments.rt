@@ -25,7 +25,7 @@ pub(crate) fn add_arguments(
 ) -> Result<Vec<LocalId>, AllocError>
     ensures { IfOk result (λ args. HasArguments function params.now locals.old locals.new (ids indices.old) (ids indices.new) args.items) }
 {
-    let mut args = Vec::new(alloc);
+    let mut args = Vec::with_capacity(alloc, params.len())?;
     for ty in params {
         let own = *ty;
         let id = locals.add(own)?;

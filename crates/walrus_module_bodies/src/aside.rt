@@ -1,10 +1,11 @@
 //! A body is read beside some type for each handler.
 
-ghost use Rattle.std.specs.Prelude.{◌≡◌, ◌⊎◌, ◌<◌, ◌≤◌, ◌+◌, length, All, None, IfOk, IfErr};
+ghost use Rattle.std.specs.Prelude.{◌≡◌, ◌⊎◌, ◌<◌, ◌≤◌, ◌+◌, length, All, None, false, IfOk, IfErr};
 ghost use Rattle.wasm_reader.specs.Cursor.{IsWithin, end_of, rest};
 ghost use Rattle.walrus_index_maps.specs.Views.{ids};
 ghost use Rattle.walrus_module_env.specs.walrus_body_parser.walrus_body_stack.walrus_body_env.declared.error.BodyError.TheVariants.{Memory as WantsMemory};
 ghost use Rattle.walrus_module_env.specs.walrus_body_parser.walrus_body_rules.wasm_body_grammar.Rules.{Around};
+ghost use Rattle.walrus_module_env.specs.walrus_handler_types.walrus_handlers.Gathering.{have_try};
 ghost use Rattle.walrus_module_env.specs.walrus_handler_types.walrus_tree.Trees.{IsTree};
 ghost use Rattle.walrus_module_env.specs.walrus_body_parser.walrus_body_stack.walrus_builder.Built.{contents};
 ghost use Rattle.walrus_module_env.specs.walrus_body_parser.walrus_body_stack.walrus_builder.Functions.{seqs_of};
@@ -12,20 +13,22 @@ ghost use Rattle.walrus_module_env.specs.Around.{IsFiled};
 ghost use Rattle.walrus_module_env.specs.walrus_collections.walrus_local_function.walrus_body_locals.Locals.{Leaves};
 ghost use Rattle.walrus_module_bodies.specs.Reading.{IsBodyAside, IsBodyFault, TagsStand};
 
+use crate::tries::Tries;
 use std::alloc::Global;
 use walrus_arena::{FunctionId, LocalId, TypeId};
 use walrus_body_trees::laws::bodies_are_trees;
 use walrus_index_maps::IndicesToIds;
 use walrus_module_env::ModuleEnv;
+use walrus_module_env::body_env::BodyError;
 use walrus_module_env::body_env::instr::InstrSeqType;
 use walrus_module_env::body_env::instr::type_table::ModuleLocals;
-use walrus_module_env::body_env::{AcceptAll, BodyError};
 use walrus_module_env::collections::local_function::LocalFunction;
 use walrus_module_env::handlers::AnyHandler;
 use walrus_module_env::laws::files_are_seen;
 use wasm_reader::BinaryReader;
 
-// Reads the body of a function of this type and these arguments, beside some type for each handler.
+// Reads the body of a function of this type and these arguments, beside some type for each handler. Where no operator opened a legacy `try`,
+// it has none.
 pub(crate) fn read_aside(
     alloc: Global,
     env: &ModuleEnv<'_>,
@@ -36,12 +39,14 @@ pub(crate) fn read_aside(
     entry: InstrSeqType,
     args: Vec<LocalId>,
     body: BinaryReader<'_>,
+    tries: &mut Tries,
 ) -> Result<LocalFunction, BodyError>
     requires begins { env.now.code_start ≤ body.window.start + body.position }
     requires ends { end_of body < env.now.code_start + 4294967295 }
     requires within { IsWithin body }
     requires tags { TagsStand env.now.tags.now env.now.types.now (ids indices.old) }
     ensures read { IfOk result (λ f. IsBodyAside env.now function (length args.items) body.entry (ids indices.old) (ids indices.new) locals.old locals.new (contents f.builder.builder)) }
+    ensures tries { IfOk result (λ f. tries.new.any ≡ false → have_try (seqs_of f.builder) ≡ false) }
     ensures ty { IfOk result (λ f. f.builder.ty ≡ ty) }
     ensures name { IfOk result (λ f. f.builder.name ≡ None) }
     ensures args { IfOk result (λ f. f.args ≡ args) }
@@ -51,16 +56,7 @@ pub(crate) fn read_aside(
     files_are_seen();
     let any = AnyHandler::new(env);
     LocalFunction::parse(
-        alloc,
-        &any,
-        indices,
-        locals,
-        function,
-        ty,
-        entry,
-        args,
-        body,
-        &mut AcceptAll,
+        alloc, &any, indices, locals, function, ty, entry, args, body, tries,
     )
 }
 
@@ -75,6 +71,7 @@ pub(crate) fn read_tree(
     entry: InstrSeqType,
     args: Vec<LocalId>,
     body: BinaryReader<'_>,
+    tries: &mut Tries,
 ) -> Result<LocalFunction, BodyError>
     requires begins { env.now.code_start ≤ body.window.start + body.position }
     requires ends { end_of body < env.now.code_start + 4294967295 }
@@ -84,6 +81,7 @@ pub(crate) fn read_tree(
     requires bytes { All (λ b. b < 256) (rest body) }
     ensures read { IfOk result (λ f. IsBodyAside env.now function (length args.items) body.entry (ids indices.old) (ids indices.new) locals.old locals.new (contents f.builder.builder)) }
     ensures tree { IfOk result (λ f. IsTree (seqs_of f.builder) 0) }
+    ensures tries { IfOk result (λ f. tries.new.any ≡ false → have_try (seqs_of f.builder) ≡ false) }
     ensures ty { IfOk result (λ f. f.builder.ty ≡ ty) }
     ensures name { IfOk result (λ f. f.builder.name ≡ None) }
     ensures args { IfOk result (λ f. f.args ≡ args) }
@@ -91,5 +89,7 @@ pub(crate) fn read_tree(
     ensures kept { Leaves function locals.old locals.new (ids indices.old) (ids indices.new) }
 {
     bodies_are_trees();
-    read_aside(alloc, env, indices, locals, function, ty, entry, args, body)
+    read_aside(
+        alloc, env, indices, locals, function, ty, entry, args, body, tries,
+    )
 }

@@ -15,6 +15,7 @@ ghost use Rattle.walrus_module_bodies.specs.Reading.{GivesHandlers, IsBodyFault,
 
 use crate::aside::read_tree;
 use crate::file::FileEnv;
+use crate::tries::Tries;
 use std::alloc::Global;
 use walrus_arena::{FunctionId, LocalId, TypeId};
 use walrus_index_maps::IndicesToIds;
@@ -23,7 +24,7 @@ use walrus_module_env::body_env::instr::InstrSeqType;
 use walrus_module_env::body_env::instr::type_table::{ModuleLocals, ModuleTypes};
 use walrus_module_env::collections::local_function::LocalFunction;
 use walrus_module_env::handler_types::give_types;
-use walrus_module_env::handlers::handlers;
+use walrus_module_env::handlers::handlers_if;
 use walrus_module_env::laws::{handled_bodies_stand, picks_are_seen};
 use wasm_reader::BinaryReader;
 
@@ -70,10 +71,11 @@ pub(crate) fn read_handled(
     picks_are_seen();
     handled_bodies_stand();
     let env = file.beside(&*types);
+    let mut tries = Tries { any: false };
     let mut read = read_tree(
-        alloc, &env, indices, locals, function, ty, entry, args, body,
+        alloc, &env, indices, locals, function, ty, entry, args, body, &mut tries,
     )?;
-    let told = handlers(alloc, &env, read.builder())?;
+    let told = handlers_if(alloc, &env, read.builder(), tries.any)?;
     give_types(alloc, told.as_slice(), types, read.builder_mut())?;
     Ok(read)
 }

@@ -8,6 +8,7 @@ mod body;
 mod file;
 mod handled;
 pub mod laws;
+mod tries;
 
 pub use bodies::read_bodies;
 pub use body::read_function;

@@ -45,7 +45,7 @@ pub mod handler_types {
 }
 
 pub mod handlers {
-    pub use walrus_handler_types::{AnyHandler, handlers};
+    pub use walrus_handler_types::{AnyHandler, handlers, handlers_if};
 }
 
 pub mod locations {

@@ -1,4 +1,4 @@
-use Rattle.std.proofs.Common.{◌≡◌, ◌∙◌, ℕ, List, [], length, map, Option, None, refl, sym, ap, subst, arith}
+use Rattle.std.proofs.Common.{◌≡◌, ◌∙◌, ℕ, List, length, map, Option, None, refl, sym, ap, subst, arith}
 use Rattle.std.specs.Prelude.{replicate}
 use Rattle.walrus_handler_laws.specs.walrus_tree.walrus_builder.Built.{seq_of}
 use Rattle.walrus_handler_laws.specs.walrus_tree.walrus_builder.Functions.{seqs_of}

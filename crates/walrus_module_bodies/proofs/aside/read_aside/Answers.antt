@@ -1,10 +1,12 @@
 use Rattle.std.proofs.Common.{◌+◌, ◌≤◌, ℕ, length, refl, subst, sym}
 use Rattle.walrus_index_maps.specs.Views.{ids}
 use Rattle.walrus_module_env.specs.walrus_body_parser.walrus_body_stack.walrus_builder.Built.{contents}
-use Rattle.walrus_module_env.specs.walrus_body_parser.walrus_body_stack.walrus_body_env.contracts.validator.AcceptAllValidator.TheImpl.{ghosts}
+use Rattle.walrus_module_env.specs.walrus_body_parser.walrus_body_stack.walrus_builder.Functions.{seqs_of}
 use Rattle.walrus_module_env.specs.walrus_collections.walrus_local_function.walrus_function_parser.Parsed.{telling}
 use Rattle.walrus_module_bodies.proofs.AsideLemmas.{aside_read, of_err, of_ok, one_aside}
 use Rattle.walrus_module_bodies.proofs.StopLemmas.{body_fault}
+use Rattle.walrus_module_bodies.proofs.TryLemmas.{parsed_quiet}
+use Rattle.walrus_module_bodies.specs.contracts.tries.TriesValidator.TheImpl.{ghosts}
 use Rattle.walrus_module_bodies.proofs.aside.read_aside.Goals as goal
 
 pub returns-clause-read : goal.returns-clause-read
@@ -27,3 +29,9 @@ returns-clause-stops c =
     (telling ghosts.locals_step ghosts.op_step ghosts.finish_step) (length c.args.args.items) _ any.start c.args.body _ _ _ _ fault c.requires.tags c.parse.ensures.kept
     c.requires.within (subst (λ (n : ℕ). n ≤ c.args.body.window.start + c.args.body.position) (sym any.start) c.requires.begins) (λ v offset r. refl) (λ v offset op. refl) (λ v offset. refl) h)
     c.parse.ensures.refused
+
+pub returns-clause-tries : goal.returns-clause-tries
+returns-clause-tries c =
+    of_ok c.parse.result
+    (λ f p. parsed_quiet _ _ _ c.args.body _ _ _ (ids c.parse.new.indices) _ _ (seqs_of f.builder) p)
+    c.parse.ensures.parsed

@@ -6,8 +6,11 @@ use Rattle.walrus_module_env.specs.walrus_handler_types.walrus_handlers.Gatherin
 use Rattle.walrus_module_env.specs.walrus_handler_types.walrus_handler_laws.Handlers.{tree_ids}
 use Rattle.walrus_module_env.specs.walrus_body_parser.walrus_body_stack.walrus_builder.Built.{contents}
 use Rattle.walrus_module_env.specs.Env.{tag_type_at}
-use Rattle.walrus_module_bodies.proofs.ReadingLemmas.{gives_handlers, handled_read, lent_tree}
+use Rattle.walrus_module_bodies.proofs.ReadingLemmas.{gives_handlers, handled_read, lent_tree, lent_untried}
 use Rattle.walrus_module_bodies.proofs.handled.read_handled.Goals as goal
+
+pub handlers_if-requires-clause-untried : goal.handlers_if-requires-clause-untried
+handlers_if-requires-clause-untried c = lent_untried c.in_ok-read.read.builder c.builder.result.now c.builder.ensures c.read_tree.new.tries.any c.in_ok-read.ensures.tries
 
 pub give_types-requires : goal.give_types-requires
 give_types-requires c = lent_tree c.in_ok-read.read.builder c.builder_mut.result.now c.builder_mut.ensures.value c.in_ok-read.ensures.tree
