@@ -6,10 +6,12 @@ same operators, and prints the ratios, the memory an instruction and the time an
 
 Each body stands in a file, and is in normal form: what is written is the body again. A time is the processor's, the system's calls
 included, of a whole run less that of one that does no more than load the file (the loop in C: that reads an empty one), the least of the
-rounds; memory is the greatest that a run holds, less that of one that loads the file, over the instructions of the tree: of few
-instructions it says nothing. Each is measured twice: with large pages, for which the programs in bin/ have the C library ask, and with
+rounds, in each of which all run by turns; memory is the greatest that a run holds, less that of one that loads the file, over the
+instructions of the tree: of few instructions it says nothing. Each is measured twice: with large pages, for which the programs in bin/ have the C library ask, and with
 small ones. A tree takes some twenty times the memory of its code, of which the loop in C touches none, and the kernel's work for new pages
-of 4 KiB is a third of the time of parsing; pages of 2 MiB round the memory up by as much at most.
+of 4 KiB is a third of the time of parsing; pages of 2 MiB round the memory up by one or two of them. With large pages the C library also
+takes memory from the kernel 64 MiB at a time: else it maps lists of more than 128 KiB one by one, at places that lie across large pages, so
+that most of such a list has small ones.
 """
 import argparse
 import os
@@ -56,7 +58,7 @@ SHAPES = (
     ("the same, 100,000 deep", 10**6, 400, 10**5),
 )
 
-PAGES = (("large pages", LARGE_PAGES), ("small pages", {}))
+PAGES = (("large pages", {name: f"{value}:glibc.malloc.top_pad={64 << 20}" for name, value in LARGE_PAGES.items()}), ("small pages", {}))
 
 
 def plain(chance, some_locals):
@@ -133,14 +135,16 @@ def measured(settings, *words):
     return int(took) / 1e6, int(held), run.stdout
 
 
-def least(rounds, settings, *words):
-    runs = [measured(settings, *words) for _ in range(rounds)]
-    return min(it[0] for it in runs), min(it[1] for it in runs), runs[0][2]
+def in_turns(rounds, runs):
+    """Of each run the least time and memory of the rounds, and what it prints. Each round has all of them, so that what disturbs the machine for
+    seconds disturbs all."""
+    found = [{name: measured(*run) for name, run in runs.items()} for _ in range(rounds)]
+    return {name: (min(it[name][0] for it in found), min(it[name][1] for it in found), found[0][name][2]) for name in runs}
 
 
 def main():
     words = argparse.ArgumentParser(description="Times the parsing and emission of bodies against a loop in C that decodes them.")
-    words.add_argument("--rounds", type=int, default=5)
+    words.add_argument("--rounds", type=int, default=9)
     words.add_argument("--seed", type=int, default=1)
     words.add_argument("--only", default="")
     asked = words.parse_args()
@@ -163,11 +167,14 @@ def main():
             for name, text in ((file, declared + operators), (code, operators)):
                 with open(name, "wb") as it:
                     it.write(text)
-            theirs = least(asked.rounds, {}, runner, loop, code, "read")
-            decoded = theirs[0] - least(asked.rounds, {}, runner, loop, "/dev/null", "read")[0]
-            seen = int(theirs[2].split()[0])
+            runs = {way: ({}, runner, loop, of, "read") for way, of in (("decoded", code), ("nothing", "/dev/null"))}
             for pages, settings in PAGES:
-                load, parse, both = (least(asked.rounds, settings, runner, ours, "body", file, way) for way in ("load", "parse", "both"))
+                runs |= {(pages, way): (settings, runner, ours, "body", file, way) for way in ("load", "parse", "both")}
+            found = in_turns(asked.rounds, runs)
+            decoded = found["decoded"][0] - found["nothing"][0]
+            seen = int(found["decoded"][2].split()[0])
+            for pages, _ in PAGES:
+                load, parse, both = (found[pages, way] for way in ("load", "parse", "both"))
                 instructions, written = (int(both[2].split()[k]) for k in (0, 2))
                 if written != len(declared) + len(operators):
                     sys.exit(f"{what}: of {len(declared) + len(operators)} bytes {written} are written")

@@ -3,7 +3,8 @@
 
     bench/reading.py [--rounds N] [--scale N] [--small-pages] [FILE..]
 
-A time is the least of the rounds, in seconds by the clock; memory is the most that was resident. wasm-opt reads the file and writes it again.
+A time is the least of the rounds, in seconds by the clock; memory is the most that was resident. In each round wasm-opt runs once and
+walrus_inspect three times, so that what disturbs the machine disturbs both. wasm-opt reads the file and writes it again.
 Wanted are 15 times less time and half of the memory, and at most 2.2 times the time for twice the count. walrus_inspect runs as
 bin/walrus_inspect starts it, which has the C library ask for large pages, unless --small-pages is given. --scale divides the counts. Files
 that are named are measured instead. binaryen is installed where it is missing.
@@ -29,15 +30,19 @@ def build():
         subprocess.run(["rt", "run", "--", "--version"], cwd=CRATE, check=True, stdout=subprocess.DEVNULL)
 
 
-def least(command, rounds, settings=None):
-    clocks, _, memories = zip(*(measured(command, settings) for _ in range(rounds)))
+def least(runs):
+    clocks, _, memories = zip(*runs)
     return min(clocks), max(memories)
 
 
 def row(what, file, rounds, settings, before):
     """Prints the figures of a file, beside those of the one before it, and returns our time."""
-    ours, memory = least([PROGRAM, file], rounds, settings)
-    theirs, much = least(["wasm-opt", "--all-features", file, "-o", os.devnull], rounds)
+    own, other = [], []
+    for _ in range(rounds):
+        own += [measured([PROGRAM, file], settings) for _ in range(3)]
+        other.append(measured(["wasm-opt", "--all-features", file, "-o", os.devnull], None))
+    ours, memory = least(own)
+    theirs, much = least(other)
     size = os.path.getsize(file)
     doubled = f"{ours / before:.2f}" if before else ""
     print(f"| {what} | {size / 1e6:.1f} | {ours:.3f} | {doubled} | {theirs:.3f} | {theirs / ours:.1f} | {memory / 2**20:.0f} | {memory / much:.2f} |", flush=True)

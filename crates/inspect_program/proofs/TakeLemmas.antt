@@ -1,5 +1,5 @@
 -- What a reader gives of which so many bytes are read at most.
-use Rattle.std.proofs.Common.{ℕ, ◌≡◌, ◌++◌, List, [], Option, Some, None, IfSome, take, subst}
+use Rattle.std.proofs.Common.{ℕ, ◌≡◌, ◌++◌, List, [], Option, Some, None, IfSome, take, subst, sym}
 use Rattle.std.specs.Option.{option_map}
 use Rattle.std.specs.Io.Take.{take_limit, take_inner, take_remaining}
 use Rattle.std.specs.declared.io.traits.Take.{Take}
@@ -16,3 +16,7 @@ all_taken {R} remaining limited reader limit before items limit_is inner_is empt
     let one = subst (λ (n : ℕ). IfSome (option_map (take n) (remaining (take_inner limited))) (λ xs. items ≡ before ++ xs)) limit_is h in
     let two = subst (λ (r : R). IfSome (option_map (take limit) (remaining r)) (λ xs. items ≡ before ++ xs)) inner_is one in
     mapped limit (remaining reader) items (subst (λ (front : List ℕ). IfSome (option_map (take limit) (remaining reader)) (λ xs. items ≡ front ++ xs)) empty two)
+
+-- its room was given back
+pub shrunk : (limit : ℕ) (left : Option (List ℕ)) (old new : List ℕ) → new ≡ old → IfSome left (λ all. old ≡ take limit all) → IfSome left (λ all. new ≡ take limit all)
+shrunk limit left old new same h = subst (λ (items : List ℕ). IfSome left (λ all. items ≡ take limit all)) (sym same) h

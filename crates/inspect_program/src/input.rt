@@ -21,7 +21,7 @@ pub fn read_input<R: Files + Input + AllocGlobal>(rt: &R, word: &str) -> io::Res
     read_all(rt.alloc(), fs::open(rt, word)?)
 }
 
-/// All bytes that there are, or one more than a module may have. Memory grows with what is read.
+/// All bytes that there are, or one more than a module may have. Memory grows with what is read, and room that isn't needed is given back.
 ///
 /// # Errors
 ///
@@ -32,5 +32,6 @@ pub fn read_all<R: Read + Drop>(alloc: Global, reader: R) -> io::Result<Vec<u8>>
     let mut bytes = Vec::new(alloc);
     let mut limited = reader.take(MAX_INPUT_LEN + 1);
     limited.read_to_end(&mut bytes)?;
+    bytes.shrink_to_fit();
     Ok(bytes)
 }

@@ -5,8 +5,8 @@ ghost use Rattle.walrus_operator_tests.specs.Given.{given};
 
 use crate::maps::{Maps, are_apart, are_named, are_numbered, fill_ids, fill_numbers};
 use crate::table::all_stand;
-use std::alloc::{AllocError, Global};
-use walrus_index_maps::{IdsToIndices, IndicesToIds, Space, UnknownIndex};
+use std::alloc::Global;
+use walrus_index_maps::{IdsToIndices, IndicesToIds};
 
 fn stand(alloc: Global, maps: &mut Maps) -> bool
     requires { given (indices maps.old.numbers) ≡ 0 }
@@ -31,17 +31,4 @@ fn holds(alloc: Global) -> bool {
 #[test]
 fn maps_and_all_rows(rt: HostRuntime) {
     assert!(rt; holds(rt.alloc()));
-}
-
-fn is_text(text: Result<String, AllocError>, wanted: &str) -> bool {
-    match text {
-        Ok(text) => text.as_str() == wanted,
-        Err(_) => false,
-    }
-}
-
-#[test]
-fn an_unknown_index_says_of_what(rt: HostRuntime) {
-    let text = format!(in rt.alloc(); "{}", UnknownIndex(Space::Element));
-    assert!(rt; is_text(text, "index of a element is out of range"));
 }

@@ -1,7 +1,6 @@
 //! Features that are off, and faults at their places. The first byte of each text stands at 11.
 
 use crate::maps::Maps;
-use crate::operators::NOTHING;
 use crate::view::{ANSWERS, answer};
 use crate::words::{as_slice, bytes_of, cut, first, nth, number};
 use std::alloc::Global;
@@ -21,13 +20,7 @@ pub(crate) fn is_refused(alloc: Global, maps: &Maps, row: &[u8]) -> bool {
     let (bytes, rest) = cut(rest, b' ');
     let (answers, rest) = cut(rest, b' ');
     let (missing, place) = cut(rest, b' ');
-    let found = answer(
-        alloc,
-        maps,
-        without(off),
-        as_slice(&bytes_of(bytes)),
-        NOTHING,
-    );
+    let found = answer(alloc, maps, without(off), as_slice(&bytes_of(bytes)), None);
     nth(ANSWERS.as_bytes(), found.0) == answers
         && found.1 == number(missing, 10)
         && found.2 == number(place, 10)

@@ -118,12 +118,16 @@ fn give(numbers: &mut IdsToIndices, space: Space, at: u32, number: u32) -> Resul
             }
         }
         Space::Data => {
-            numbers.set_data_index(id(at), number)?;
-            Ok(number)
+            match numbers.set_data_index(id(at), number) {
+                Ok(()) => Ok(number),
+                Err(fault) => Err(fault),
+            }
         }
         _ => {
-            numbers.set_local_index(body(), id(at), number)?;
-            Ok(number)
+            match numbers.set_local_index(body(), id(at), number) {
+                Ok(()) => Ok(number),
+                Err(fault) => Err(fault),
+            }
         }
     }
 }
@@ -262,7 +266,7 @@ const HELD: [Row; 9] = [
 
 /// Whether functions that share a local have their own numbers of it.
 pub(crate) fn are_apart(numbers: &mut IdsToIndices) -> bool {
-    for (function, local, number) in SET {
+    for &(function, local, number) in &SET {
         if numbers
             .set_local_index(id(function), id(local), number)
             .is_err()
@@ -270,7 +274,7 @@ pub(crate) fn are_apart(numbers: &mut IdsToIndices) -> bool {
             return false;
         }
     }
-    for (function, local, number) in HELD {
+    for &(function, local, number) in &HELD {
         let found = numbers.get_local_index(id(function), id(local));
         if found != if number == 0 { None } else { Some(number) } {
             return false;

@@ -12,7 +12,6 @@ use walrus_instr::{
 use wasm_operators::OpCode;
 
 // The form of an instruction with a part that tells its code.
-#[derive(Clone, Copy)]
 enum Form {
     Unary(UnaryOp),
     Binary(BinaryOp),
@@ -173,13 +172,13 @@ static FORMS: [(u8, u32, Form); 478] = forms! {
 };
 
 // An instruction of the form, any memory and place, gives this code.
-fn has_code(alloc: Global, numbers: &IdsToIndices, form: Form, code: OpCode) -> bool {
+fn has_code(alloc: Global, numbers: &IdsToIndices, form: &Form, code: OpCode) -> bool {
     let memory = id(800);
     let arg = MemArg {
         align: 1,
         offset: 0,
     };
-    let instr = match form {
+    let instr = match *form {
         Form::Unary(op) => Instr::Unop { op },
         Form::Binary(op) => Instr::Binop { op },
         Form::Ternary(op) => Instr::TernOp { op },
@@ -207,7 +206,7 @@ fn has_code(alloc: Global, numbers: &IdsToIndices, form: Form, code: OpCode) -> 
 fn is_of_its_form(alloc: Global, numbers: &IdsToIndices, code: OpCode) -> bool {
     for (prefix, number, form) in &FORMS {
         if *prefix == code.prefix && *number == code.number {
-            return has_code(alloc, numbers, *form, code);
+            return has_code(alloc, numbers, form, code);
         }
     }
     false

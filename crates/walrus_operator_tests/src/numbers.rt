@@ -234,12 +234,13 @@ fn number_at(immediates: &Immediates, at: usize) -> Option<u64> {
 /// Whether they have these numbers and no other, all in one word. A `-` alone is none.
 pub(crate) fn has_numbers(immediates: &Immediates, words: &[u8]) -> bool {
     let mut rest = words;
-    for at in 0..=words.len() {
+    for at in 0..words.len().saturating_add(1) {
+        let found = number_at(immediates, at);
         if rest.is_empty() || rest == "-".as_bytes() {
-            return number_at(immediates, at).is_none();
+            return found.is_none();
         }
         let (word, next) = cut(rest, b',');
-        if number_at(immediates, at) != Some(number(word, 10)) {
+        if found != Some(number(word, 10)) {
             return false;
         }
         rest = next;

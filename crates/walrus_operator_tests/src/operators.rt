@@ -8,22 +8,10 @@ use std::alloc::Global;
 use wasm_operators::OpCode;
 use wasm_reader::WasmFeatures;
 
-/// Asks nothing of an operator.
-pub(crate) const NOTHING: Asked<'static> = (
-    0,
-    OpCode {
-        prefix: 0,
-        number: 0,
-    },
-    &[],
-    &[],
-    &[],
-);
-
 // Each proper front of the bytes is refused for its end.
 fn ends_early(alloc: Global, maps: &Maps, bytes: &[u8]) -> bool {
     for size in 0..bytes.len() {
-        if answer(alloc, maps, WasmFeatures::all(), &bytes[..size], NOTHING).0 != END {
+        if answer(alloc, maps, WasmFeatures::all(), &bytes[..size], None).0 != END {
             return false;
         }
     }
@@ -49,7 +37,8 @@ fn has_immediates(
     };
     let bytes = as_slice(&bytes);
     let asked = (b'c', code, form, numbers, word);
-    ends_early(alloc, maps, bytes) && answer(alloc, maps, WasmFeatures::all(), bytes, asked).0 == 0
+    ends_early(alloc, maps, bytes)
+        && answer(alloc, maps, WasmFeatures::all(), bytes, Some(&asked)).0 == 0
 }
 
 // With how many immediates the code stands: with each of its form. None where it doesn't, or there are none.
@@ -82,7 +71,7 @@ fn stands_with(
 // The code alone is no operator's.
 fn is_unknown(alloc: Global, maps: &Maps, code: OpCode) -> Option<u32> {
     let bytes = text_of(code, &[]);
-    let (found, _, place) = answer(alloc, maps, WasmFeatures::all(), as_slice(&bytes), NOTHING);
+    let (found, _, place) = answer(alloc, maps, WasmFeatures::all(), as_slice(&bytes), None);
     if found == 2 && place == 11 {
         Some(1)
     } else {
@@ -98,7 +87,7 @@ pub(crate) fn codes_stand(alloc: Global, maps: &Maps, row: &[u8]) -> Option<u32>
     let (form, becomes) = cut(rest, b' ');
     let start = code(prefix, start);
     let mut sum = 0u32;
-    for number in start.number..=code(prefix, end).number {
+    for number in start.number..code(prefix, end).number.saturating_add(1) {
         let code = OpCode {
             prefix: start.prefix,
             number,
@@ -119,14 +108,13 @@ pub(crate) fn codes_stand(alloc: Global, maps: &Maps, row: &[u8]) -> Option<u32>
 /// Whether what this kind of row asks stands of the operator of a row.
 pub(crate) fn is_answered(alloc: Global, maps: &Maps, kind: u8, row: &[u8]) -> bool {
     let (bytes, words) = cut(row, b' ');
-    let (_, code, form, numbers, _) = NOTHING;
-    let asked = (kind, code, form, numbers, words);
+    let asked: Asked<'_> = (kind, code(&[], &[]), &[], &[], words);
     answer(
         alloc,
         maps,
         WasmFeatures::all(),
         as_slice(&bytes_of(bytes)),
-        asked,
+        Some(&asked),
     )
     .0 == 0
 }

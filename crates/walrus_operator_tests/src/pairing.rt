@@ -6,7 +6,7 @@ use crate::numbers::place;
 use crate::view::is_written;
 use crate::words::{code, cut, number};
 use std::alloc::Global;
-use walrus_index_maps::{IdsToIndices, Space};
+use walrus_index_maps::IdsToIndices;
 use walrus_instr::Instr;
 use walrus_operators::{Immediates, Operator};
 use walrus_pairing::{PairError, instr_of, operator_of};
@@ -17,18 +17,10 @@ use wasm_operators::OpCode;
 pub(crate) const MADE: &str =
     "back other none shared select alignment no-type no-function no-table no-memory no-tag no-global no-element no-data no-local no-label";
 
+// (The spaces stand in the text in the order of their declaration.)
 fn refused(fault: PairError) -> usize {
     match fault {
-        PairError::Unknown(Space::Type) => 6,
-        PairError::Unknown(Space::Function) => 7,
-        PairError::Unknown(Space::Table) => 8,
-        PairError::Unknown(Space::Memory) => 9,
-        PairError::Unknown(Space::Tag) => 10,
-        PairError::Unknown(Space::Global) => 11,
-        PairError::Unknown(Space::Element) => 12,
-        PairError::Unknown(Space::Data) => 13,
-        PairError::Unknown(Space::Local) => 14,
-        PairError::Unknown(Space::Label) => 15,
+        PairError::Unknown(space) => (space as usize).saturating_add(6),
         PairError::SharedType => 3,
         PairError::Select => 4,
         PairError::Alignment => 5,
@@ -40,7 +32,7 @@ fn refused(fault: PairError) -> usize {
 fn is_it(alloc: Global, operator: &Operator, code: OpCode, form: usize, bytes: &[u8]) -> bool {
     operator.code == code
         && (bytes.is_empty()
-            || place(&operator.immediates) == form && is_written(alloc, operator, bytes))
+            || (place(&operator.immediates) == form) & is_written(alloc, operator, bytes))
 }
 
 /// Whether the instruction's operator has this code, and where there are bytes, is of this form and written as them.
@@ -61,7 +53,7 @@ pub(crate) fn gives(
 fn has_ids(instr: &Instr, words: &[u8]) -> bool {
     let (one, other) = cut(words, b' ');
     let (_, _, first, second) = named(instr);
-    first as u64 == number(one, 10) && second as u64 == number(other, 10)
+    (first as u64 == number(one, 10)) & (second as u64 == number(other, 10))
 }
 
 // Whether the instruction has these ids in its fields, or, where none are asked for, the code of its name, and gives the operator back.

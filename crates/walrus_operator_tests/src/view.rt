@@ -17,7 +17,6 @@ use wasm_reader::{BinaryReader, ErrorKind, WasmFeatures};
 /// - `p`: it is written as the bytes of the words.
 /// - `r`: the operator of its instruction is.
 /// - `i`: its instruction has these ids in its fields.
-/// - 0 asks nothing.
 pub(crate) type Asked<'a> = (u8, OpCode, &'a [u8], &'a [u8], &'a [u8]);
 
 /// The operator is written as these bytes.
@@ -33,21 +32,21 @@ fn is_copied(alloc: Global, operator: &Operator, bytes: &[u8]) -> bool {
     }
 }
 
-fn is_so(alloc: Global, maps: &Maps, operator: &Operator, bytes: &[u8], asked: Asked<'_>) -> bool {
-    let (kind, code, form, numbers, words) = asked;
+fn is_so(alloc: Global, maps: &Maps, operator: &Operator, bytes: &[u8], asked: &Asked<'_>) -> bool {
+    let (kind, code, form, numbers, words) = *asked;
     match kind {
         b'c' => {
-            operator.code == code
-                && nth(FORMS.as_bytes(), place(&operator.immediates)) == form
-                && has_numbers(&operator.immediates, numbers)
-                && is_written(alloc, operator, bytes)
-                && is_copied(alloc, operator, bytes)
-                && nth(MADE.as_bytes(), made(alloc, maps, operator, bytes, &[])) == words
+            (operator.code == code)
+                & (nth(FORMS.as_bytes(), place(&operator.immediates)) == form)
+                & has_numbers(&operator.immediates, numbers)
+                & is_written(alloc, operator, bytes)
+                & is_copied(alloc, operator, bytes)
+                & (nth(MADE.as_bytes(), made(alloc, maps, operator, bytes, &[])) == words)
         }
         b'p' => is_written(alloc, operator, as_slice(&bytes_of(words))),
         b'r' => made(alloc, maps, operator, as_slice(&bytes_of(words)), &[]) == 0,
         b'i' => made(alloc, maps, operator, bytes, words) == 0,
-        kind => kind == 0,
+        _ => false,
     }
 }
 
@@ -69,22 +68,22 @@ pub(crate) const ANSWERS: &str = "none other unknown end long large bad";
 pub(crate) const END: usize = 3;
 
 /// What reading the first operator of the bytes answers: the place of a word of the text, how many bytes are missing, and the fault's place.
-/// The first byte stands at 11.
+/// The first byte stands at 11. Of an operator nothing may be asked.
 pub(crate) fn answer(
     alloc: Global,
     maps: &Maps,
     features: WasmFeatures,
     bytes: &[u8],
-    asked: Asked<'_>,
+    asked: Option<&Asked<'_>>,
 ) -> (usize, u64, u64) {
     let mut reader = OperatorReader::new(BinaryReader::new_features(bytes, 11, features));
     match reader.read(alloc) {
         Ok(operator) => {
-            if reader.eof() && is_so(alloc, maps, &operator, bytes, asked) {
-                (0, 0, 0)
-            } else {
-                (1, 0, 0)
-            }
+            let stands = match asked {
+                Some(asked) => is_so(alloc, maps, &operator, bytes, asked),
+                None => true,
+            };
+            (if stands & reader.eof() { 0 } else { 1 }, 0, 0)
         }
         Err(OperatorError::Read(e)) => {
             let (kind, missing) = named(e.kind());

@@ -3,6 +3,7 @@ use std::alloc::{AllocError, Global};
 use std::fmt::Display;
 use walrus_body_env::BodyError;
 use walrus_errors::{ErrorKind, Form, Limited, ModuleError, Space};
+use walrus_index_maps::{Space as IndexSpace, UnknownIndex};
 use wasm_reader::{Error as ReadError, ErrorKind as ReadErrorKind};
 
 fn push_shown<T: Display>(alloc: Global, text: &mut String, value: &T) -> Result<(), AllocError> {
@@ -65,6 +66,12 @@ fn of_modules_with_a_place(rt: HostRuntime) {
                  offset has the wrong type,blocks do not nest,operator may not stand here,unknown operator,\
                  not supported: shared global,duplicate export name,number out of bounds,limit passed: locals,";
     assert!(rt; are_shown(rt.alloc(), &PLACED, words) == Ok(true));
+}
+
+#[test]
+fn of_an_unknown_index(rt: HostRuntime) {
+    let unknown = [UnknownIndex(IndexSpace::Element)];
+    assert!(rt; are_shown(rt.alloc(), &unknown, "index of a element is out of range,") == Ok(true));
 }
 
 #[test]
