@@ -15,10 +15,10 @@ use Rattle.walrus_instr.specs.declared.operators.UnaryOp.{UnaryOp}
 use Rattle.walrus_instr.specs.declared.operators.BinaryOp.{BinaryOp}
 use Rattle.walrus_instr.specs.declared.operators.TernaryOp.{TernaryOp}
 use Rattle.wasm_normal_form.specs.Roles.{Runs}
-use Rattle.walrus_operator_codes.specs.Unary.{unary_code}
-use Rattle.walrus_operator_codes.specs.Binary.{binary_code}
-use Rattle.walrus_operator_codes.specs.Ternary.{ternary_code}
-use Rattle.walrus_operator_codes.specs.Access.{load_code, store_code, simd_code, rmw_code, cmpxchg_code}
+use Rattle.walrus_codes.specs.Unary.{unary_code}
+use Rattle.walrus_codes.specs.Binary.{binary_code}
+use Rattle.walrus_codes.specs.Ternary.{ternary_code}
+use Rattle.walrus_codes.specs.Access.{load_code, store_code, simd_code, rmw_code, cmpxchg_code}
 use Rattle.walrus_pairing.specs.Write.{test_code, cast_code}
 use Rattle.walrus_body_laws.specs.Naming.{role_at}
 use Rattle.walrus_instr.specs.declared.operators.UnaryOp.TheVariants as units

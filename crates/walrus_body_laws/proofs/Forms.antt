@@ -11,7 +11,7 @@ use Rattle.walrus_forms.specs.declared.value.RefType.{RefType}
 use Rattle.walrus_instr.specs.declared.instr.Instr.{Instr}
 use Rattle.walrus_instr.specs.declared.instr.Instr.TheVariants as instrs
 use Rattle.walrus_instr.specs.declared.seq.InstrSeq.{InstrSeq}
-use Rattle.walrus_operator_codes.specs.Runs.{byte, object}
+use Rattle.walrus_codes.specs.Runs.{byte, object}
 use Rattle.walrus_pairing.specs.Looks.{Look, Or, ◌>>=◌}
 use Rattle.walrus_pairing.specs.Types.{written_heap}
 use Rattle.walrus_pairing.specs.Write.{seen_of, op, operator_at}

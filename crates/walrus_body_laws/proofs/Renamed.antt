@@ -23,7 +23,7 @@ use Rattle.walrus_instr.specs.declared.seq.InstrSeqType.{InstrSeqType}
 use Rattle.walrus_instr.specs.declared.seq.InstrSeqType.TheVariants.{Simple, MultiValue}
 use Rattle.walrus_tree.specs.Text.{Piece, Operator, Else, Catch, CatchAll, Delegate, End}
 use Rattle.wasm_normal_form.specs.Roles.{Placed, placed}
-use Rattle.walrus_operator_codes.specs.Runs.{byte, object}
+use Rattle.walrus_codes.specs.Runs.{byte, object}
 use Rattle.walrus_pairing.specs.Looks.{Look, Or, ◌>>=◌}
 use Rattle.walrus_pairing.specs.Types.{written_heap, written_value}
 use Rattle.walrus_pairing.specs.Write.{op, seen_of}

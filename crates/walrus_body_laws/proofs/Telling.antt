@@ -11,10 +11,10 @@ use Rattle.walrus_instr.specs.declared.instr.Instr.TheVariants as instrs
 use Rattle.walrus_instr.specs.declared.instr.Value.TheVariants as constants
 use Rattle.walrus_instr.specs.declared.memory.MemArg.{MemArg}
 use Rattle.walrus_instr.specs.declared.seq.InstrSeq.{InstrSeq}
-use Rattle.walrus_operator_codes.specs.Runs.{byte, object, bulk, atomic}
-use Rattle.walrus_operator_codes.specs.Unary.{unary_lane}
-use Rattle.walrus_operator_codes.specs.Binary.{binary_lane}
-use Rattle.walrus_operator_codes.specs.Access.{load_code, store_code, simd_code, simd_lane, rmw_code, cmpxchg_code}
+use Rattle.walrus_codes.specs.Runs.{byte, object, bulk, atomic}
+use Rattle.walrus_codes.specs.Unary.{unary_lane}
+use Rattle.walrus_codes.specs.Binary.{binary_lane}
+use Rattle.walrus_codes.specs.Access.{load_code, store_code, simd_code, simd_lane, rmw_code, cmpxchg_code}
 use Rattle.walrus_pairing.specs.Looks.{Look, Or, ◌>>=◌, found}
 use Rattle.walrus_pairing.specs.Types.{written_heap, written_value}
 use Rattle.walrus_pairing.specs.Write.{op, either, one, two, counted, access, access_of, lane_items, heap, test_code, cast_code, operator_at}

@@ -5,7 +5,7 @@ use Rattle.walrus_instr.specs.declared.instr.Instr.TheVariants as instrs
 use Rattle.walrus_instr.specs.declared.seq.InstrSeq.{InstrSeq}
 use Rattle.wasm_operators.specs.declared.op_code.OpCode.{OpCode}
 use Rattle.wasm_operators.specs.Operators.{Seen}
-use Rattle.walrus_operator_codes.specs.Runs.{byte, object}
+use Rattle.walrus_codes.specs.Runs.{byte, object}
 use Rattle.walrus_pairing.specs.Looks.{Look}
 use Rattle.walrus_pairing.specs.InstrLaws.{IsPlain, Undoes}
 use Rattle.walrus_body_names.specs.walrus_body_writer.Spelled.{written_instr}

@@ -44,22 +44,22 @@ struct Facts {
     names_segment: bool,
     // Each local at least once. Those that hints show to be there aren't put there again, so that few are left to sort.
     found: Vec<LocalId>,
-    // By a local's number, a place where it may have been found.
-    hints: Vec<usize>,
+    // By a local's number, a place where it may have been found: what is there tells whether it was.
+    hints: Vec<u32>,
     // The local that was put there last, if there is one. Where an instruction names none, the hint of this one is tested.
     last: LocalId,
 }
 
 // Whether a hint shows that the local is among these.
 #[inline(always)]
-fn is_there(found: &[LocalId], hints: &[usize], id: LocalId) -> bool
+fn is_there(found: &[LocalId], hints: &[u32], id: LocalId) -> bool
     ensures { OnTrue result (Contains found.now id) }
 {
     let slot = slot_of(id, hints.len());
     if slot >= hints.len() {
         return false;
     }
-    let at = hints[slot];
+    let at = hints[slot] as usize;
     if at >= found.len() {
         return false;
     }
@@ -70,7 +70,7 @@ fn is_there(found: &[LocalId], hints: &[usize], id: LocalId) -> bool
 }
 
 // Puts the local behind those that were found.
-fn add(found: &mut Vec<LocalId>, hints: &mut Vec<usize>, id: LocalId) -> Result<(), AllocError>
+fn add(found: &mut Vec<LocalId>, hints: &mut Vec<u32>, id: LocalId) -> Result<(), AllocError>
     ensures told { OnOk result (HaveSame found.new.items (found.old.items ++ id ∷ [])) }
     ensures refused { OnErr result (found.new.items ≡ found.old.items) }
 {
@@ -81,13 +81,13 @@ fn add(found: &mut Vec<LocalId>, hints: &mut Vec<usize>, id: LocalId) -> Result<
     found.push(id)?;
     let slot = slot_of(id, hints.len());
     if slot < hints.len() {
-        hints[slot] = at;
+        hints[slot] = at as u32;
     }
     Ok(())
 }
 
 // The same, if no hint shows that it is among them.
-fn gather(found: &mut Vec<LocalId>, hints: &mut Vec<usize>, id: LocalId) -> Result<(), AllocError>
+fn gather(found: &mut Vec<LocalId>, hints: &mut Vec<u32>, id: LocalId) -> Result<(), AllocError>
     ensures told { OnOk result (HaveSame found.new.items (found.old.items ++ id ∷ [])) }
     ensures refused { OnErr result (found.new.items ≡ found.old.items) }
 {
@@ -100,7 +100,7 @@ fn gather(found: &mut Vec<LocalId>, hints: &mut Vec<usize>, id: LocalId) -> Resu
 // Gathers the local that an instruction names, if it names one.
 fn gather_named(
     found: &mut Vec<LocalId>,
-    hints: &mut Vec<usize>,
+    hints: &mut Vec<u32>,
     instr: &Instr,
 ) -> Result<(), AllocError>
     ensures told { OnOk result (HaveSame found.new.items (found.old.items ++ local_in instr.now)) }
@@ -116,7 +116,7 @@ fn gather_named(
 // local found last is looked for in its place, so that no jump depends on whether it names one.
 #[inline(always)]
 #[tactic(auto, using(crate::proofs::Same::told_if))]
-fn is_told(found: &[LocalId], hints: &[usize], last: &LocalId, instr: &Instr) -> bool
+fn is_told(found: &[LocalId], hints: &[u32], last: &LocalId, instr: &Instr) -> bool
     ensures unmarked { OnTrue result (has_any (segment_in instr.now) ≡ false) }
     ensures told { OnTrue result (HaveSame found.now (found.now ++ local_in instr.now)) }
 {

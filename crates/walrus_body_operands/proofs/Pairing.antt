@@ -28,7 +28,7 @@ use Rattle.walrus_operators.specs.Immediates.{items_of, kind_is}
 use Rattle.walrus_operators.specs.Operators.{seen}
 use Rattle.walrus_pairing.specs.Plain.{holds_labels, is_no_step}
 use Rattle.walrus_pairing.proofs.Answered.{plain_is_answered}
-use Rattle.walrus_body_steps.specs.walrus_operator_codes.Access.{simd_at}
+use Rattle.walrus_body_steps.specs.walrus_codes.Access.{simd_at}
 use Rattle.walrus_pairing.specs.declared.error.PairError.{PairError}
 use Rattle.walrus_pairing.specs.declared.error.PairError.TheVariants as pairs
 use Rattle.walrus_pairing.specs.Looks.{Look, Or, ◌>>=◌, found}

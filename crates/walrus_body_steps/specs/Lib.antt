@@ -3,7 +3,7 @@ pub mod Laws
 pub mod Stepping
 pub mod Picks
 -- Passed on to crates above, which then list this one alone.
-pub use Rattle.walrus_body_rules.specs.walrus_operator_codes as walrus_operator_codes
+pub use Rattle.walrus_body_rules.specs.walrus_codes as walrus_codes
 pub use Rattle.walrus_body_stack.specs.walrus_body_env as walrus_body_env
 pub use Rattle.walrus_body_stack.specs.walrus_body_nesting as walrus_body_nesting
 pub use Rattle.walrus_body_rules.specs as walrus_body_rules

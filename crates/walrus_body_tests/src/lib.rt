@@ -1,5 +1,5 @@
-//! Tests of bodies that are read, in a module of their own, and written again, of bodies and locals that are written, and of frames, each
-//! call with ample memory.
+//! Tests of bodies that are read, in a module of their own, and written again, of bodies and locals that are written, of frames, and of
+//! operators, each call with ample memory.
 #![tactic(auto)]
 
 #[cfg(test)]
@@ -16,6 +16,8 @@ mod handlers;
 mod locals;
 #[cfg(test)]
 mod module;
+#[cfg(test)]
+mod operators;
 #[cfg(test)]
 mod read;
 #[cfg(test)]

@@ -16,7 +16,7 @@ use Rattle.walrus_meaning.specs.walrus_body_writer.walrus_body_env.walrus_instr.
 use Rattle.walrus_meaning.specs.walrus_body_writer.walrus_body_env.walrus_instr.declared.instr.TryTableCatch.{TryTableCatch}
 use Rattle.walrus_meaning.specs.walrus_body_writer.walrus_tree.walrus_walks.Tree.{children, handlers as handlers_of}
 use Rattle.walrus_tree.specs.Trees.{Has, HasAll, Delegates, IsWithin, clause_label}
-use Rattle.walrus_meaning.specs.walrus_body_writer.walrus_pairing.walrus_operator_codes.Runs.{Run, in_runs}
+use Rattle.walrus_meaning.specs.walrus_body_writer.walrus_pairing.walrus_codes.Runs.{Run, in_runs}
 use Rattle.walrus_meaning.specs.walrus_body_writer.walrus_pairing.Read.{at, of_bytes, of_objects, instr_at}
 use Rattle.walrus_meaning.specs.walrus_body_writer.walrus_pairing.Write.{operator_at}
 use Rattle.walrus_pairing.specs.Laws.{OperatorComesBack, all}

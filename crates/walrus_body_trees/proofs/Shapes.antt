@@ -12,7 +12,7 @@ use Rattle.walrus_meaning.specs.walrus_local_function.walrus_body_parser.wasm_op
 use Rattle.walrus_meaning.specs.walrus_local_function.walrus_body_parser.wasm_operators.Kinds.{forms}
 use Rattle.walrus_meaning.specs.walrus_local_function.walrus_body_parser.wasm_operators.Operators.{Seen, flow_in, flow_of}
 use Rattle.wasm_operator_bytes.specs.Ranges.{ItemsFit, OperatorFits}
-use Rattle.walrus_meaning.specs.walrus_body_writer.walrus_pairing.walrus_operator_codes.Runs.{byte}
+use Rattle.walrus_meaning.specs.walrus_body_writer.walrus_pairing.walrus_codes.Runs.{byte}
 use Rattle.walrus_pairing.proofs.Rows.{TablePasses, table_holds}
 use Rattle.walrus_pairing.proofs.Kept.{entry_of}
 

@@ -29,7 +29,7 @@ use Rattle.walrus_meaning.specs.walrus_body_writer.walrus_tree.walrus_walks.Tree
 use Rattle.walrus_tree.specs.Trees.{Has, AreDistinct}
 use Rattle.walrus_tree.specs.Text.{Piece, Operator, Else, Catch, CatchAll, Delegate, End, after, after_parts, of_parts, of_instrs, text, operators}
 use Rattle.walrus_tree.specs.TextLaws.{TextIsPlain}
-use Rattle.walrus_meaning.specs.walrus_body_writer.walrus_pairing.walrus_operator_codes.Runs.{byte}
+use Rattle.walrus_meaning.specs.walrus_body_writer.walrus_pairing.walrus_codes.Runs.{byte}
 use Rattle.walrus_meaning.specs.walrus_body_writer.walrus_pairing.Write.{seen_of}
 use Rattle.walrus_pairing.specs.Laws.{OperatorComesBack}
 use Rattle.walrus_meaning.specs.Bodies.{own_seen}

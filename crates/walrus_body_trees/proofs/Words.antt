@@ -21,7 +21,7 @@ use Rattle.walrus_meaning.specs.walrus_body_writer.walrus_body_env.walrus_instr.
 use Rattle.walrus_meaning.specs.walrus_body_writer.walrus_body_env.walrus_instr.declared.instr.TryTableCatch.{TryTableCatch}
 use Rattle.walrus_meaning.specs.walrus_body_writer.walrus_body_env.walrus_instr.declared.seq.InstrSeq.{InstrSeq}
 use Rattle.walrus_tree.specs.Trees.{Has, AreDistinct}
-use Rattle.walrus_meaning.specs.walrus_body_writer.walrus_pairing.walrus_operator_codes.Runs.{Run, in_runs, byte, object}
+use Rattle.walrus_meaning.specs.walrus_body_writer.walrus_pairing.walrus_codes.Runs.{Run, in_runs, byte, object}
 use Rattle.walrus_meaning.specs.walrus_body_writer.walrus_pairing.Looks.{Or}
 use Rattle.walrus_meaning.specs.walrus_body_writer.walrus_pairing.Types.{written_heap, read_heap}
 use Rattle.walrus_meaning.specs.walrus_body_writer.walrus_pairing.Read.{at, of_bytes, of_objects, instr_at}

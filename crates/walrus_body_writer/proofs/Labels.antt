@@ -9,7 +9,7 @@ use Rattle.walrus_body_text.specs.walrus_tree.walrus_walks.walrus_instr.declared
 use Rattle.walrus_body_text.specs.walrus_tree.walrus_walks.walrus_instr.declared.instr.TryTableCatch.TheVariants as parts
 use Rattle.walrus_body_text.specs.walrus_tree.walrus_walks.walrus_instr.declared.seq.InstrSeq.{InstrSeq}
 use Rattle.wasm_immediates.specs.declared.clause.Clause.{Clause}
-use Rattle.walrus_pairing.specs.walrus_operator_codes.Runs.{byte}
+use Rattle.walrus_pairing.specs.walrus_codes.Runs.{byte}
 use Rattle.walrus_pairing.specs.Looks.{Look, Or, ◌>>=◌}
 use Rattle.walrus_pairing.specs.Write.{op}
 use Rattle.wasm_immediates.specs.Items.{Labels, Names, Block, ManyLabels, ManyClauses}

@@ -14,25 +14,25 @@ use Rattle.walrus_operator_writer.proofs.Appends.{appends_on}
 use Rattle.walrus_operator_writer.proofs.Keeps.{keeps_all, keeps_front}
 use Rattle.walrus_body_text.specs.walrus_tree.walrus_walks.walrus_instr.declared.instr.Instr.{Instr}
 use Rattle.walrus_body_text.specs.walrus_tree.walrus_walks.walrus_instr.declared.instr.Instr.TheVariants as instrs
-use Rattle.walrus_pairing.specs.walrus_operator_codes.walrus_instr.declared.instr.Value.{Value}
+use Rattle.walrus_pairing.specs.walrus_codes.walrus_instr.declared.instr.Value.{Value}
 use Rattle.walrus_body_text.specs.walrus_tree.walrus_walks.walrus_instr.declared.seq.InstrLocId.{InstrLocId}
 use Rattle.walrus_body_text.specs.walrus_tree.walrus_walks.walrus_instr.declared.seq.InstrSeq.{InstrSeq}
 use Rattle.walrus_body_text.specs.walrus_tree.walrus_walks.walrus_instr.declared.seq.InstrSeqType.{InstrSeqType}
 use Rattle.wasm_immediates.specs.declared.block_type.BlockType.{BlockType}
 use Rattle.walrus_body_text.specs.walrus_tree.walrus_walks.walrus_instr.walrus_forms.declared.value.ValType.{ValType}
-use Rattle.walrus_pairing.specs.walrus_operator_codes.walrus_instr.declared.memory.MemArg.{MemArg}
-use Rattle.walrus_pairing.specs.walrus_operator_codes.walrus_instr.declared.memory.LoadKind.{LoadKind}
-use Rattle.walrus_pairing.specs.walrus_operator_codes.walrus_instr.declared.memory.StoreKind.{StoreKind}
-use Rattle.walrus_pairing.specs.walrus_operator_codes.Access.{load_code, store_code}
-use Rattle.walrus_pairing.specs.walrus_operator_codes.Runs.{byte}
+use Rattle.walrus_pairing.specs.walrus_codes.walrus_instr.declared.memory.MemArg.{MemArg}
+use Rattle.walrus_pairing.specs.walrus_codes.walrus_instr.declared.memory.LoadKind.{LoadKind}
+use Rattle.walrus_pairing.specs.walrus_codes.walrus_instr.declared.memory.StoreKind.{StoreKind}
+use Rattle.walrus_pairing.specs.walrus_codes.Access.{load_code, store_code}
+use Rattle.walrus_pairing.specs.walrus_codes.Runs.{byte}
 use Rattle.walrus_index_maps.specs.declared.space.Space.{Space as Named}
 use Rattle.walrus_index_maps.specs.declared.space.Space.TheVariants as spaces
 use Rattle.walrus_pairing.specs.declared.error.PairError.{PairError}
 use Rattle.walrus_pairing.specs.declared.error.PairError.TheVariants as errors
 use Rattle.walrus_pairing.specs.Looks.{Look, Or, ◌>>=◌, word}
 use Rattle.walrus_pairing.specs.Write.{access, access_of, constant, either, lane_items, one, op, operator_at, seen_of}
-use Rattle.walrus_pairing.specs.walrus_operator_codes.Binary.{binary_code, binary_lane}
-use Rattle.walrus_pairing.specs.walrus_operator_codes.Unary.{unary_code, unary_lane}
+use Rattle.walrus_pairing.specs.walrus_codes.Binary.{binary_code, binary_lane}
+use Rattle.walrus_pairing.specs.walrus_codes.Unary.{unary_code, unary_lane}
 use Rattle.walrus_body_text.specs.walrus_tree.walrus_walks.walrus_instr.declared.operators.BinaryOp.{BinaryOp}
 use Rattle.walrus_body_text.specs.walrus_tree.walrus_walks.walrus_instr.declared.operators.UnaryOp.{UnaryOp}
 use Rattle.walrus_body_writer.specs.declared.output.Output.{Output}

@@ -18,7 +18,7 @@ use Rattle.wasm_immediates.specs.declared.clause.Clause.TheVariants as handlers
 use Rattle.wasm_immediates.specs.Items.{Types, Tags, Labels, Names, Byte, Heap, Block, ManyLabels, ManyClauses}
 use Rattle.wasm_operators.specs.Operators.{Seen}
 use Rattle.walrus_operator_writer.specs.wasm_operator_bytes.Bytes.{operator_bytes}
-use Rattle.walrus_pairing.specs.walrus_operator_codes.Runs.{byte, object}
+use Rattle.walrus_pairing.specs.walrus_codes.Runs.{byte, object}
 use Rattle.walrus_pairing.specs.Looks.{Look, Or, ◌>>=◌, found}
 use Rattle.walrus_pairing.specs.Types.{type_of, written_heap, written_value}
 use Rattle.walrus_pairing.specs.Write.{op, operator_at}

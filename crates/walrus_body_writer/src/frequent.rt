@@ -4,7 +4,7 @@ ghost use Rattle.std.specs.Prelude.{◌≡◌, ℕ, [], ◌∷◌, List, None, s
 ghost use Rattle.wasm_immediates.specs.Items.{Space as Of, Access, Bits, Block, Byte, Functions, Globals, Labels, Locals, Names, Number, S32, S64};
 ghost use Rattle.walrus_operator_writer.specs.Appended.{Appends};
 ghost use Rattle.walrus_operator_writer.specs.wasm_operator_bytes.Bytes.{code_bytes, item_bytes, operator_bytes};
-ghost use Rattle.walrus_pairing.specs.walrus_operator_codes.Runs as codes;
+ghost use Rattle.walrus_pairing.specs.walrus_codes.Runs as codes;
 ghost use Rattle.walrus_pairing.specs.Looks.{Look, word};
 ghost use Rattle.walrus_pairing.specs.Write.{access, access_of, constant, lane_items, log_of, one, op, seen_of};
 ghost use Rattle.walrus_body_writer.specs.Appended.{IsAppended, named};

@@ -1,5 +1,5 @@
 //! Codes on which wrong bodies are tried: behind a prefix, and those of loads and atomic operators (Core Specification, binary format: memory
-//! instructions; the proposal on threads). The others stand in `walrus_operator_codes`.
+//! instructions; the proposal on threads). The others stand in `walrus_pairing`.
 #![tactic(auto)]
 
 // A code, written out: a call for each would be a good part of what the proofs of the large matches take.
@@ -17,15 +17,3 @@ mod code;
 
 pub use access::{code_of_cmpxchg, code_of_load, code_of_rmw};
 pub use code::{atomic, saturating};
-
-// Passed on to crates above, which then list this one alone.
-pub mod instr {
-    pub use walrus_instr::{
-        AtomicOp, AtomicWidth, BinaryOp, ExtendedLoad, LoadKind, LoadSimdKind, StoreKind,
-        TernaryOp, UnaryOp,
-    };
-}
-
-pub mod operator_table {
-    pub use wasm_operators::OpCode;
-}

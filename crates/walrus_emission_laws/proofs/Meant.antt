@@ -26,7 +26,7 @@ use Rattle.walrus_instr.specs.declared.seq.InstrSeqType.{InstrSeqType}
 use Rattle.walrus_instr.specs.declared.seq.InstrSeqType.TheVariants.{Simple, MultiValue}
 use Rattle.walrus_builder.specs.Functions.{seqs_of}
 use Rattle.walrus_tree.specs.Text.{Piece, Operator, Else, Catch, CatchAll, Delegate, End, operators}
-use Rattle.walrus_operator_codes.specs.Runs.{byte, object}
+use Rattle.walrus_codes.specs.Runs.{byte, object}
 use Rattle.walrus_body_trees.specs.walrus_pairing.Looks.{Or, ◌>>=◌}
 use Rattle.walrus_body_trees.specs.walrus_pairing.Types.{written_heap, written_value}
 use Rattle.walrus_body_trees.specs.walrus_pairing.Write.{op, operator_at, seen_of}

@@ -18,7 +18,7 @@ use Rattle.walrus_instr.specs.declared.seq.InstrSeq.{InstrSeq}
 use Rattle.walrus_builder.specs.Functions.{seqs_of}
 use Rattle.walrus_linked.specs.walrus_tree.Text.{Piece, Operator, Else, Catch, CatchAll, Delegate, End, operators}
 use Rattle.walrus_linked.specs.walrus_local_function.declared.local_function.LocalFunction.{LocalFunction}
-use Rattle.walrus_operator_codes.specs.Runs.{byte, object}
+use Rattle.walrus_codes.specs.Runs.{byte, object}
 use Rattle.walrus_pairing.specs.Write.{seen_of}
 use Rattle.wasm_normal_form.specs.Locals.{Key, in_order, numbered}
 use Rattle.wasm_normal_form.specs.Bodies.{local_in}

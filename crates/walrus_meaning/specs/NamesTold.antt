@@ -20,11 +20,11 @@ use Rattle.walrus_instr.specs.declared.instr.Instr.TheVariants as instrs
 use Rattle.walrus_instr.specs.declared.instr.Value.TheVariants as constants
 use Rattle.walrus_instr.specs.declared.memory.MemArg.{MemArg}
 use Rattle.walrus_builder.specs.walrus_walks.Events.{ref_names, val_names, names}
-use Rattle.walrus_operator_codes.specs.Runs.{byte, object, bulk, vector, atomic}
-use Rattle.walrus_operator_codes.specs.Unary.{unary_code, unary_lane}
-use Rattle.walrus_operator_codes.specs.Binary.{binary_code, binary_lane}
-use Rattle.walrus_operator_codes.specs.Ternary.{ternary_code}
-use Rattle.walrus_operator_codes.specs.Access.{load_code, store_code, simd_code, simd_lane, rmw_code, cmpxchg_code}
+use Rattle.walrus_codes.specs.Runs.{byte, object, bulk, vector, atomic}
+use Rattle.walrus_codes.specs.Unary.{unary_code, unary_lane}
+use Rattle.walrus_codes.specs.Binary.{binary_code, binary_lane}
+use Rattle.walrus_codes.specs.Ternary.{ternary_code}
+use Rattle.walrus_codes.specs.Access.{load_code, store_code, simd_code, simd_lane, rmw_code, cmpxchg_code}
 use Rattle.walrus_pairing.specs.Looks.{Or, ◌>>=◌}
 use Rattle.walrus_pairing.specs.Types.{written_heap, written_value}
 use Rattle.walrus_pairing.specs.Write.{seen_of, op, either, of_code, bare_code, numeric, variable, memory_op, object_op, plain_at, select, operator_at, lane_items, access_of, test_code, cast_code}

@@ -23,7 +23,7 @@ use Rattle.walrus_instr.specs.declared.const_expr.ConstOp.TheVariants as consts
 use Rattle.walrus_instr.specs.declared.seq.InstrSeqType.{InstrSeqType}
 use Rattle.walrus_instr.specs.declared.seq.InstrSeqType.TheVariants.{Simple, MultiValue}
 use Rattle.walrus_instr.specs.Constants.{ops_of}
-use Rattle.walrus_operator_codes.specs.Runs.{byte, object, vector}
+use Rattle.walrus_codes.specs.Runs.{byte, object, vector}
 use Rattle.walrus_pairing.specs.Looks.{Look, Or}
 use Rattle.walrus_pairing.specs.Types.{written_abstract}
 use Rattle.walrus_pairing.specs.Write.{seen_of, operator_at}

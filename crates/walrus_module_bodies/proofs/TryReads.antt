@@ -15,11 +15,11 @@ use Rattle.walrus_module_env.specs.walrus_body_parser.walrus_body_stack.walrus_i
 use Rattle.walrus_module_env.specs.walrus_body_parser.walrus_body_stack.walrus_instr.declared.instr.Instr.TheVariants as instrs
 use Rattle.walrus_module_env.specs.walrus_body_parser.walrus_body_stack.walrus_instr.declared.instr.Value.TheVariants as constants
 use Rattle.walrus_module_env.specs.walrus_body_parser.walrus_body_stack.walrus_instr.declared.memory.MemArg.{MemArg}
-use Rattle.walrus_module_env.specs.walrus_body_parser.walrus_body_rules.walrus_pairing.walrus_operator_codes.Runs.{Run, in_runs}
-use Rattle.walrus_module_env.specs.walrus_body_parser.walrus_body_rules.walrus_pairing.walrus_operator_codes.Unary.{unary_at}
-use Rattle.walrus_module_env.specs.walrus_body_parser.walrus_body_rules.walrus_pairing.walrus_operator_codes.Binary.{binary_at}
-use Rattle.walrus_module_env.specs.walrus_body_parser.walrus_body_rules.walrus_pairing.walrus_operator_codes.Ternary.{ternary_at}
-use Rattle.walrus_module_env.specs.walrus_body_parser.walrus_body_rules.walrus_pairing.walrus_operator_codes.Access.{load_at, store_at, simd_at, rmw_at, cmpxchg_at}
+use Rattle.walrus_module_env.specs.walrus_body_parser.walrus_body_rules.walrus_pairing.walrus_codes.Runs.{Run, in_runs}
+use Rattle.walrus_module_env.specs.walrus_body_parser.walrus_body_rules.walrus_pairing.walrus_codes.Unary.{unary_at}
+use Rattle.walrus_module_env.specs.walrus_body_parser.walrus_body_rules.walrus_pairing.walrus_codes.Binary.{binary_at}
+use Rattle.walrus_module_env.specs.walrus_body_parser.walrus_body_rules.walrus_pairing.walrus_codes.Ternary.{ternary_at}
+use Rattle.walrus_module_env.specs.walrus_body_parser.walrus_body_rules.walrus_pairing.walrus_codes.Access.{load_at, store_at, simd_at, rmw_at, cmpxchg_at}
 use Rattle.walrus_module_env.specs.walrus_body_parser.walrus_body_rules.walrus_pairing.declared.error.PairError.TheVariants as errors
 use Rattle.walrus_module_env.specs.walrus_body_parser.walrus_body_rules.walrus_pairing.Looks.{Look, Or, ◌>>=◌, found}
 use Rattle.walrus_module_env.specs.walrus_body_parser.walrus_body_rules.walrus_pairing.Types.{read_heap, read_value, named}

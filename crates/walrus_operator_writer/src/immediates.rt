@@ -32,7 +32,7 @@ pub fn write_index(out: &mut Vec<u8>, n: u32) -> Result<(), AllocError>
 fn write_two(out: &mut Vec<u8>, first: u32, second: u32) -> Result<(), AllocError>
     ensures { Appends (unsigned_bytes first ++ unsigned_bytes second) out.old.items out.new.items result }
 {
-    write_index(out, first)?;
+    put!(write_index(out, first));
     write_index(out, second)
 }
 
@@ -47,11 +47,11 @@ pub fn write_access(out: &mut Vec<u8>, access: MemoryAccess) -> Result<(), Alloc
     ensures { Appends (access_bytes access) out.old.items out.new.items result }
 {
     if access.memory == 0 {
-        write_index(out, access.align)?;
+        put!(write_index(out, access.align));
         return write_unsigned(out, access.offset);
     }
-    write_unsigned(out, u64::from(access.align) + 64)?;
-    write_index(out, access.memory)?;
+    put!(write_unsigned(out, u64::from(access.align) + 64));
+    put!(write_index(out, access.memory));
     write_unsigned(out, access.offset)
 }
 
@@ -61,19 +61,19 @@ fn write_clause(out: &mut Vec<u8>, clause: Clause) -> Result<(), AllocError>
 {
     match clause {
         Clause::Catch { tag, label } => {
-            write_byte(out, 0x00)?;
+            put!(write_byte(out, 0x00));
             write_two(out, tag, label)
         }
         Clause::CatchRef { tag, label } => {
-            write_byte(out, 0x01)?;
+            put!(write_byte(out, 0x01));
             write_two(out, tag, label)
         }
         Clause::CatchAll { label } => {
-            write_byte(out, 0x02)?;
+            put!(write_byte(out, 0x02));
             write_index(out, label)
         }
         Clause::CatchAllRef { label } => {
-            write_byte(out, 0x03)?;
+            put!(write_byte(out, 0x03));
             write_index(out, label)
         }
     }
@@ -116,7 +116,7 @@ fn write_clauses(out: &mut Vec<u8>, clauses: &[Clause]) -> Result<(), AllocError
 fn write_try_table(out: &mut Vec<u8>, ty: BlockType, clauses: &[Clause]) -> Result<(), AllocError>
     ensures { AppendsItems (items.Block ty ∷ items.ManyClauses clauses.now ∷ []) out.old.items out.new.items result }
 {
-    write_block_type(out, ty)?;
+    put!(write_block_type(out, ty));
     write_clauses(out, clauses)
 }
 
@@ -124,7 +124,7 @@ fn write_try_table(out: &mut Vec<u8>, ty: BlockType, clauses: &[Clause]) -> Resu
 fn write_branch_table(out: &mut Vec<u8>, labels: &[u32], otherwise: u32) -> Result<(), AllocError>
     ensures { AppendsItems (items.ManyLabels labels.now ∷ items.Names items.Labels otherwise ∷ []) out.old.items out.new.items result }
 {
-    write_labels(out, labels)?;
+    put!(write_labels(out, labels));
     write_index(out, otherwise)
 }
 
@@ -132,7 +132,7 @@ fn write_branch_table(out: &mut Vec<u8>, labels: &[u32], otherwise: u32) -> Resu
 fn write_access_lane(out: &mut Vec<u8>, access: MemoryAccess, lane: u8) -> Result<(), AllocError>
     ensures { AppendsItems (items.Access «access» ∷ items.Byte lane ∷ []) out.old.items out.new.items result }
 {
-    write_access(out, access)?;
+    put!(write_access(out, access));
     write_byte(out, lane)
 }
 
@@ -146,9 +146,9 @@ fn write_cast(
 ) -> Result<(), AllocError>
     ensures { AppendsItems (items.Byte flags ∷ items.Names items.Labels label ∷ items.Heap from ∷ items.Heap to ∷ []) out.old.items out.new.items result }
 {
-    write_byte(out, flags)?;
-    write_index(out, label)?;
-    write_heap_type(out, from)?;
+    put!(write_byte(out, flags));
+    put!(write_index(out, label));
+    put!(write_heap_type(out, from));
     write_heap_type(out, to)
 }
 

@@ -1,6 +1,17 @@
 //! Operators are written in their shortest spelling (Core Specification, binary format: instructions).
 #![tactic(auto)]
 
+// What was written stays, or the caller hands the refusal on. (`?` would convert it, though both are of one type: a call more for each, and longer
+// proofs.)
+macro_rules! put {
+    ($call:expr) => {
+        match $call {
+            Ok(()) => {}
+            Err(error) => return Err(error),
+        }
+    };
+}
+
 mod immediates;
 pub mod laws;
 mod operator;

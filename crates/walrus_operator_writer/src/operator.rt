@@ -15,7 +15,7 @@ use wasm_operator_bytes::{write_byte, write_unsigned};
 fn write_prefixed(out: &mut Vec<u8>, prefix: u8, number: u32) -> Result<(), AllocError>
     ensures { Appends (prefix ∷ unsigned_bytes number) out.old.items out.new.items result }
 {
-    write_byte(out, prefix)?;
+    put!(write_byte(out, prefix));
     write_unsigned(out, u64::from(number))
 }
 
@@ -40,7 +40,7 @@ pub fn write_code(out: &mut Vec<u8>, code: OpCode) -> Result<(), AllocError>
 fn append_operator(out: &mut Vec<u8>, operator: &Operator) -> Result<(), AllocError>
     ensures { Appends (operator_bytes (seen operator.now)) out.old.items out.new.items result }
 {
-    write_code(out, operator.code)?;
+    put!(write_code(out, operator.code));
     write_immediates(out, &operator.immediates)
 }
 

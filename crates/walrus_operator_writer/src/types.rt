@@ -65,7 +65,7 @@ fn write_reference(out: &mut Vec<u8>, nullable: bool, heap_type: HeapType) -> Re
 fn write_long(out: &mut Vec<u8>, first: u8, heap_type: HeapType) -> Result<(), AllocError>
     ensures { Appends (first ∷ heap_bytes heap_type) out.old.items out.new.items result }
 {
-    write_byte(out, first)?;
+    put!(write_byte(out, first));
     write_heap_type(out, heap_type)
 }
 

@@ -1,4 +1,3 @@
-mod Handlers
 mod Moves
 mod Unknown
 mod Known

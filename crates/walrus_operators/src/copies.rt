@@ -21,16 +21,18 @@ impl Immediates {
         match self {
             Immediates::Bare => Ok(Immediates::Bare),
             Immediates::Block(ty) => Ok(Immediates::Block(*ty)),
-            Immediates::TryTable(ty, clauses) => Ok(Immediates::TryTable(*ty, clauses.clone()?)),
+            Immediates::TryTable(ty, clauses) => {
+                Ok(Immediates::TryTable(*ty, got!(clauses.clone())))
+            }
             Immediates::Tag(n) => Ok(Immediates::Tag(*n)),
             Immediates::Label(n) => Ok(Immediates::Label(*n)),
             Immediates::BrTable(labels, otherwise) => {
-                Ok(Immediates::BrTable(labels.clone()?, *otherwise))
+                Ok(Immediates::BrTable(got!(labels.clone()), *otherwise))
             }
             Immediates::Function(n) => Ok(Immediates::Function(*n)),
             Immediates::TypeTable(m, n) => Ok(Immediates::TypeTable(*m, *n)),
             Immediates::Type(n) => Ok(Immediates::Type(*n)),
-            Immediates::Select(types) => Ok(Immediates::Select(types.clone()?)),
+            Immediates::Select(types) => Ok(Immediates::Select(got!(types.clone()))),
             Immediates::Local(n) => Ok(Immediates::Local(*n)),
             Immediates::Global(n) => Ok(Immediates::Global(*n)),
             Immediates::Table(n) => Ok(Immediates::Table(*n)),
@@ -73,7 +75,7 @@ impl Operator {
     {
         Ok(Operator {
             code: self.code,
-            immediates: self.immediates.clone()?,
+            immediates: got!(self.immediates.clone()),
         })
     }
 }

@@ -1,6 +1,16 @@
 //! Operators, read one by one (Core Specification, binary format: instructions).
 #![tactic(auto)]
 
+// What a call gives; a refusal is handed on. (`?` would convert it, though both are of one type: a call more for each, and longer proofs.)
+macro_rules! got {
+    ($call:expr) => {
+        match $call {
+            Ok(found) => found,
+            Err(error) => return Err(error),
+        }
+    };
+}
+
 mod copies;
 mod immediates;
 pub mod laws;

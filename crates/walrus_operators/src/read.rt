@@ -14,16 +14,6 @@ use wasm_immediates::{BlockType, Clause, read_below, read_zero};
 use wasm_operators::reader::{BinaryReader, FromReader, Result};
 use wasm_operators::{Kind, read_access};
 
-// What a call gives; a refusal is handed on. (`?` would convert it, though both are of one type: a call more for each, and longer proofs.)
-macro_rules! got {
-    ($call:expr) => {
-        match $call {
-            Ok(found) => found,
-            Err(error) => return Err(error),
-        }
-    };
-}
-
 // No list is longer than a u32 counts.
 const MOST: usize = 4294967295;
 
@@ -32,8 +22,8 @@ fn read_try_table(alloc: Global, reader: &mut BinaryReader<'_>) -> Result<Immedi
     ensures items { ReadsUnlessMemory (items_at reader.old.window.features (forms Kind.TryTable)) items_of reader.old reader.new result }
     ensures kind { IfOk result (λ x. kind_is x ≡ Kind.TryTable) }
 {
-    let ty = BlockType::from_reader(alloc, reader)?;
-    let clauses = reader.read_vec::<Clause>(alloc, MOST)?;
+    let ty = got!(BlockType::from_reader(alloc, reader));
+    let clauses = got!(reader.read_vec::<Clause>(alloc, MOST));
     Ok(Immediates::TryTable(ty, clauses))
 }
 

@@ -16,6 +16,16 @@ use std::marker::Model;
 use wasm_operators::reader::{BinaryReader, Error, Result};
 use wasm_operators::{Kind, OpCode};
 
+// What a call gives; a fault of the reader is handed on.
+macro_rules! read {
+    ($call:expr) => {
+        match $call {
+            Ok(found) => found,
+            Err(error) => return Err(OperatorError::Read(error)),
+        }
+    };
+}
+
 /// Why no operator was read.
 #[derive(Clone, Copy, PartialEq, Eq)]
 pub enum OperatorError {
@@ -45,7 +55,7 @@ fn read_code(reader: &mut BinaryReader<'_>, kind: Kind) -> Result<OpCode>
     ensures kind { IfOk result (λ code. IsKindOrPlace reader.old code (Ok kind)) }
     ensures entry { IfOk result (λ code. (e : Row) → IsNext reader.old e → find_code code.prefix code.number ≡ Some e) }
 {
-    let byte = reader.read_u8()?;
+    let byte = got!(reader.read_u8());
     Ok(OpCode {
         prefix: 0,
         number: u32::from(byte),
@@ -126,8 +136,8 @@ impl<'a> OperatorReader<'a> {
         ensures kind { IfOk result (λ op. kind_is op.immediates ≡ kind) }
         ensures entry { IfOk result (λ op. (e : Row) → IsNext self.old e → find_code op.code.prefix op.code.number ≡ Some e) }
     {
-        let code = read_code(&mut self.reader, kind)?;
-        let immediates = read_immediates(kind, alloc, &mut self.reader)?;
+        let code = read!(read_code(&mut self.reader, kind));
+        let immediates = read!(read_immediates(kind, alloc, &mut self.reader));
         Ok(Operator { code, immediates })
     }
 }

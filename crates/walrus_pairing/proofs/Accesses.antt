@@ -11,7 +11,7 @@ use Rattle.walrus_instr.specs.declared.instr.Instr.TheVariants as instrs
 use Rattle.walrus_instr.specs.declared.memory.MemArg.{MemArg}
 use Rattle.walrus_instr.specs.declared.memory.AtomicOp.{AtomicOp}
 use Rattle.walrus_instr.specs.declared.memory.AtomicWidth.{AtomicWidth}
-use Rattle.walrus_operator_codes.specs.Access.{load_at, store_at, simd_at, simd_lane, rmw_at, cmpxchg_at}
+use Rattle.walrus_codes.specs.Access.{load_at, store_at, simd_at, simd_lane, rmw_at, cmpxchg_at}
 use Rattle.walrus_pairing.specs.Looks.{Look}
 use Rattle.walrus_pairing.specs.Write.{op, operator_at, lane_items, log_of, access_of}
 use Rattle.walrus_pairing.specs.Read.{at, first, arg_of, wait_at, simd_access, access_at}

@@ -15,11 +15,11 @@ use Rattle.walrus_instr.specs.declared.memory.StoreKind.TheVariants as stores
 use Rattle.walrus_instr.specs.declared.memory.LoadSimdKind.{LoadSimdKind}
 use Rattle.walrus_instr.specs.declared.memory.AtomicOp.{AtomicOp}
 use Rattle.walrus_instr.specs.declared.memory.AtomicWidth.{AtomicWidth}
-use Rattle.walrus_operator_codes.specs.Runs.{Run, run, in_runs}
-use Rattle.walrus_operator_codes.specs.Unary.{unary_bytes, unary_bulks, low_unary_vectors, high_unary_vectors, unary_lanes, unary_at, unary_code, unary_lane}
-use Rattle.walrus_operator_codes.specs.Binary.{binary_bytes, binary_bulks, low_binary_vectors, high_binary_vectors, binary_lanes, binary_at, binary_code, binary_lane}
-use Rattle.walrus_operator_codes.specs.Ternary.{ternary_vectors, ternary_at, ternary_code}
-use Rattle.walrus_operator_codes.specs.Access.{byte_loads, atomic_loads, load_at, load_code, byte_stores, atomic_stores, store_at, store_code, vector_accesses, lane_accesses, simd_at, simd_code, simd_lane, widths_in_order, atomic_changes, rmw_at, rmw_code, cmpxchg_at, cmpxchg_code}
+use Rattle.walrus_codes.specs.Runs.{Run, run, in_runs}
+use Rattle.walrus_codes.specs.Unary.{unary_bytes, unary_bulks, low_unary_vectors, high_unary_vectors, unary_lanes, unary_at, unary_code, unary_lane}
+use Rattle.walrus_codes.specs.Binary.{binary_bytes, binary_bulks, low_binary_vectors, high_binary_vectors, binary_lanes, binary_at, binary_code, binary_lane}
+use Rattle.walrus_codes.specs.Ternary.{ternary_vectors, ternary_at, ternary_code}
+use Rattle.walrus_codes.specs.Access.{byte_loads, atomic_loads, load_at, load_code, byte_stores, atomic_stores, store_at, store_code, vector_accesses, lane_accesses, simd_at, simd_code, simd_lane, widths_in_order, atomic_changes, rmw_at, rmw_code, cmpxchg_at, cmpxchg_code}
 use Rattle.walrus_pairing.proofs.RowsFound.{AllFit, all_pass, prefix_found, prefix_passed}
 
 abbrev same_code : OpCode → OpCode → Bool

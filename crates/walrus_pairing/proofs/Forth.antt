@@ -7,7 +7,7 @@ use Rattle.wasm_operator_bytes.specs.wasm_operators.declared.op_code.OpCode.{OpC
 use Rattle.wasm_operator_bytes.specs.wasm_operators.Operators.{op_code}
 use Rattle.walrus_instr.specs.declared.instr.Instr.{Instr}
 use Rattle.walrus_instr.specs.declared.instr.Instr.TheVariants as instrs
-use Rattle.walrus_operator_codes.specs.Runs.{Run}
+use Rattle.walrus_codes.specs.Runs.{Run}
 use Rattle.walrus_pairing.specs.Looks.{Look}
 use Rattle.walrus_pairing.specs.Write.{op, operator_at}
 use Rattle.walrus_pairing.specs.Read.{at, of_bytes, of_objects, of_bulks, name_at, names_at, counted_at}

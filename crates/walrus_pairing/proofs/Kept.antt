@@ -12,7 +12,7 @@ use Rattle.wasm_operator_bytes.specs.wasm_operators.Table.{find_code, structure_
 use Rattle.wasm_operator_bytes.specs.wasm_operators.Kinds.{forms}
 use Rattle.wasm_operator_bytes.specs.wasm_operators.Operators.{is_on, kind_of, Seen}
 use Rattle.wasm_operator_bytes.specs.Ranges.{ItemFits, ItemsFit, OperatorFits}
-use Rattle.walrus_operator_codes.specs.Runs.{byte}
+use Rattle.walrus_codes.specs.Runs.{byte}
 use Rattle.walrus_pairing.proofs.Rows.{TablePasses, table_holds}
 
 -- the code of `select` with types

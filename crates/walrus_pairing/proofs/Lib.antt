@@ -17,3 +17,4 @@ pub mod Renamed
 pub mod Read
 pub mod Answered
 mod ListRows
+mod Tables

@@ -7,10 +7,10 @@ use Rattle.wasm_operator_bytes.specs.wasm_immediates.Items.{Item}
 use Rattle.wasm_operator_bytes.specs.wasm_operators.declared.op_code.OpCode.{OpCode}
 use Rattle.walrus_instr.specs.declared.instr.Instr.{Instr}
 use Rattle.walrus_instr.specs.declared.instr.Instr.TheVariants as instrs
-use Rattle.walrus_operator_codes.specs.Runs.{in_runs, byte}
-use Rattle.walrus_operator_codes.specs.Unary.{unary_at, unary_lane}
-use Rattle.walrus_operator_codes.specs.Binary.{binary_at, binary_lane}
-use Rattle.walrus_operator_codes.specs.Ternary.{ternary_at}
+use Rattle.walrus_codes.specs.Runs.{in_runs, byte}
+use Rattle.walrus_codes.specs.Unary.{unary_at, unary_lane}
+use Rattle.walrus_codes.specs.Binary.{binary_at, binary_lane}
+use Rattle.walrus_codes.specs.Ternary.{ternary_at}
 use Rattle.walrus_pairing.specs.Looks.{Look}
 use Rattle.walrus_pairing.specs.Write.{op, operator_at, lane_items}
 use Rattle.walrus_pairing.specs.Read.{at, first, bare_at, numeric_at, no_immediates_at}

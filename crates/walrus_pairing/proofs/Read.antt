@@ -30,10 +30,10 @@ use Rattle.walrus_instr.specs.declared.instr.Value.TheVariants as constants
 use Rattle.walrus_instr.specs.declared.instr.Instr.{Instr}
 use Rattle.walrus_instr.specs.declared.instr.Instr.TheVariants as instrs
 use Rattle.walrus_instr.specs.declared.memory.MemArg.{MemArg}
-use Rattle.walrus_operator_codes.specs.Unary.{unary_bytes, unary_bulks, low_unary_vectors, high_unary_vectors, unary_lanes}
-use Rattle.walrus_operator_codes.specs.Binary.{binary_bytes, binary_bulks, low_binary_vectors, high_binary_vectors, binary_lanes}
-use Rattle.walrus_operator_codes.specs.Ternary.{ternary_vectors}
-use Rattle.walrus_operator_codes.specs.Access.{byte_loads, atomic_loads, byte_stores, atomic_stores, vector_accesses, lane_accesses, atomic_changes, simd_at}
+use Rattle.walrus_codes.specs.Unary.{unary_bytes, unary_bulks, low_unary_vectors, high_unary_vectors, unary_lanes}
+use Rattle.walrus_codes.specs.Binary.{binary_bytes, binary_bulks, low_binary_vectors, high_binary_vectors, binary_lanes}
+use Rattle.walrus_codes.specs.Ternary.{ternary_vectors}
+use Rattle.walrus_codes.specs.Access.{byte_loads, atomic_loads, byte_stores, atomic_stores, vector_accesses, lane_accesses, atomic_changes, simd_at}
 use Rattle.walrus_pairing.specs.Looks.{Look, ◌>>=◌, found}
 use Rattle.walrus_pairing.specs.Types.{read_abstract, read_heap, read_value}
 use Rattle.walrus_pairing.specs.Read.{at, no_immediates_at, byte_at, run_at, bits_at, name_at, names_at, counted_at, heap_at, arg_of, simd_access, access_at, of_bytes, single_at, pair_at, of_items}

@@ -18,8 +18,8 @@ use Rattle.walrus_instr.specs.declared.instr.Value.TheVariants as constants
 use Rattle.walrus_instr.specs.declared.instr.Instr.{Instr}
 use Rattle.walrus_instr.specs.declared.instr.Instr.TheVariants as instrs
 use Rattle.walrus_instr.specs.declared.memory.MemArg.{MemArg}
-use Rattle.walrus_operator_codes.specs.Runs.{byte}
-use Rattle.walrus_operator_codes.specs.Access.{simd_at}
+use Rattle.walrus_codes.specs.Runs.{byte}
+use Rattle.walrus_codes.specs.Access.{simd_at}
 use Rattle.walrus_pairing.specs.Looks.{Look, ◌>>=◌, found}
 use Rattle.walrus_pairing.specs.Types.{read_heap, read_value, named}
 use Rattle.walrus_pairing.specs.Write.{op, operator_at, lane_items}
@@ -29,7 +29,7 @@ use Rattle.walrus_pairing.proofs.Forth.{bytes_found, objects_found, name_found, 
 use Rattle.walrus_pairing.proofs.Codes.{by_rows}
 use Rattle.walrus_pairing.proofs.Bytes.{bytes_again}
 use Rattle.walrus_pairing.proofs.Kept.{IsKept, operator_kept}
-use Rattle.walrus_operator_codes.specs.Runs.{vector, atomic}
+use Rattle.walrus_codes.specs.Runs.{vector, atomic}
 use Rattle.walrus_pairing.specs.declared.error.PairError.TheVariants as errors
 use Rattle.walrus_pairing.proofs.TypesAgain.{heap_again, value_again}
 use Rattle.walrus_pairing.proofs.Nothing.{Back, numeric_back, nothing_back}

@@ -9,12 +9,12 @@ use Rattle.walrus_operators.specs.wasm_operators.declared.op_code.OpCode.{OpCode
 use Rattle.walrus_operators.specs.wasm_operators.Operators.{Seen}
 use Rattle.walrus_forms.specs.declared.value.HeapType.{HeapType}
 use Rattle.walrus_forms.specs.declared.value.ValType.{ValType}
-use Rattle.walrus_operator_codes.specs.walrus_instr.declared.instr.Value.{Value as Constant}
-use Rattle.walrus_operator_codes.specs.walrus_instr.declared.instr.Value.TheVariants as constants
-use Rattle.walrus_operator_codes.specs.walrus_instr.declared.instr.Instr.{Instr}
-use Rattle.walrus_operator_codes.specs.walrus_instr.declared.instr.Instr.TheVariants as instrs
-use Rattle.walrus_operator_codes.specs.walrus_instr.declared.memory.MemArg.{MemArg}
-use Rattle.walrus_operator_codes.specs.Access.{simd_lane}
+use Rattle.walrus_codes.specs.walrus_instr.declared.instr.Value.{Value as Constant}
+use Rattle.walrus_codes.specs.walrus_instr.declared.instr.Value.TheVariants as constants
+use Rattle.walrus_codes.specs.walrus_instr.declared.instr.Instr.{Instr}
+use Rattle.walrus_codes.specs.walrus_instr.declared.instr.Instr.TheVariants as instrs
+use Rattle.walrus_codes.specs.walrus_instr.declared.memory.MemArg.{MemArg}
+use Rattle.walrus_codes.specs.Access.{simd_lane}
 use Rattle.walrus_pairing.specs.declared.error.PairError.{PairError}
 use Rattle.walrus_pairing.specs.Looks.{Look, Or, ◌>>=◌, found}
 use Rattle.walrus_pairing.specs.Types.{written_heap}

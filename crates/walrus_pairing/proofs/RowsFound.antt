@@ -4,7 +4,7 @@ use Rattle.std.proofs.Common.{ap, sym, subst, arith, inl, inr}
 use Rattle.std.proofs.lemmas.Bool.{cases_Bool, and_parts, leb-true, eqb-true}
 use Rattle.wasm_operator_bytes.specs.wasm_operators.declared.op_code.OpCode.{OpCode}
 use Rattle.wasm_operator_bytes.specs.wasm_operators.Operators.{op_code}
-use Rattle.walrus_operator_codes.specs.Runs.{Run, in_runs}
+use Rattle.walrus_codes.specs.Runs.{Run, in_runs}
 
 -- ---- what runs have
 

@@ -5,9 +5,9 @@ use Rattle.wasm_ref_types.specs.declared.value.ValType.{ValType as WrittenValue}
 use Rattle.wasm_ref_types.specs.declared.value.ValType.TheVariants as written
 use Rattle.walrus_operators.specs.wasm_immediates.Items.{Types, ManyValues}
 use Rattle.walrus_forms.specs.declared.value.ValType.{ValType}
-use Rattle.walrus_operator_codes.specs.walrus_instr.declared.instr.Instr.{Instr}
-use Rattle.walrus_operator_codes.specs.walrus_instr.declared.instr.Instr.TheVariants.{Select}
-use Rattle.walrus_operator_codes.specs.Runs.{byte}
+use Rattle.walrus_codes.specs.walrus_instr.declared.instr.Instr.{Instr}
+use Rattle.walrus_codes.specs.walrus_instr.declared.instr.Instr.TheVariants.{Select}
+use Rattle.walrus_codes.specs.Runs.{byte}
 use Rattle.walrus_operators.specs.declared.operator.Operator.{Operator}
 use Rattle.walrus_pairing.specs.declared.error.PairError.{PairError}
 use Rattle.walrus_pairing.specs.declared.error.PairError.TheVariants as errors

@@ -21,13 +21,13 @@ use Rattle.walrus_instr.specs.declared.memory.AtomicOp.{AtomicOp}
 use Rattle.walrus_instr.specs.declared.memory.AtomicOp.TheVariants as changes
 use Rattle.walrus_instr.specs.declared.memory.AtomicWidth.{AtomicWidth}
 use Rattle.walrus_instr.specs.declared.memory.AtomicWidth.TheVariants as widths
-use Rattle.walrus_operator_codes.specs.Access.{byte_loads, atomic_loads, byte_stores, atomic_stores, vector_accesses, lane_accesses, atomic_changes, load_code, store_code, simd_code, simd_lane, simd_at, rmw_code, cmpxchg_code}
+use Rattle.walrus_codes.specs.Access.{byte_loads, atomic_loads, byte_stores, atomic_stores, vector_accesses, lane_accesses, atomic_changes, load_code, store_code, simd_code, simd_lane, simd_at, rmw_code, cmpxchg_code}
 use Rattle.wasm_ref_types.specs.declared.heap.HeapType.{HeapType as WrittenHeap}
 use Rattle.wasm_ref_types.specs.declared.heap.HeapType.TheVariants.{Concrete as WConcrete, Exact as WExact}
 use Rattle.wasm_ref_types.specs.declared.index.UnpackedIndex.TheVariants.{Module}
 use Rattle.walrus_instr.specs.declared.instr.Instr.{Instr}
 use Rattle.walrus_instr.specs.declared.instr.Instr.TheVariants as instrs
-use Rattle.walrus_operator_codes.specs.Runs.{byte, object, bulk, vector, atomic}
+use Rattle.walrus_codes.specs.Runs.{byte, object, bulk, vector, atomic}
 use Rattle.walrus_pairing.specs.Looks.{Look, Or, ◌>>=◌, found}
 use Rattle.walrus_pairing.specs.Types.{written_abstract, written_heap, read_abstract, read_heap}
 use Rattle.walrus_pairing.specs.Write.{seen_of, op, one, two, counted, access, heap, log_of, access_of, test_code, cast_code, variable, memory_op, object_op}

@@ -15,12 +15,13 @@ pub mod Together
 pub mod Sends
 pub mod Sent
 pub mod Lists
+pub mod Tables
 -- Passed on to crates above, which then list this one alone.
-pub use Rattle.walrus_operator_codes.specs as walrus_operator_codes
+pub use Rattle.walrus_codes.specs as walrus_codes
 pub use Rattle.walrus_forms.specs as walrus_forms
 pub use Rattle.walrus_index_maps.specs as walrus_index_maps
-pub use Rattle.walrus_operator_codes.specs.walrus_instr as walrus_instr
-pub use Rattle.walrus_operator_codes.specs.walrus_items as walrus_items
+pub use Rattle.walrus_codes.specs.walrus_instr as walrus_instr
+pub use Rattle.walrus_codes.specs.walrus_items as walrus_items
 pub use Rattle.walrus_operators.specs as walrus_operators
 pub use Rattle.walrus_operators.specs.wasm_immediates as wasm_immediates
 pub use Rattle.wasm_operator_bytes.specs as wasm_operator_bytes

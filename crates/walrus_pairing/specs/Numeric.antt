@@ -15,10 +15,10 @@ use Rattle.walrus_instr.specs.declared.operators.BinaryOp.{BinaryOp}
 use Rattle.walrus_instr.specs.declared.operators.BinaryOp.TheVariants as binaries
 use Rattle.walrus_instr.specs.declared.operators.TernaryOp.{TernaryOp}
 use Rattle.walrus_instr.specs.declared.operators.TernaryOp.TheVariants as ternaries
-use Rattle.walrus_operator_codes.specs.Runs.{byte, object, bulk, vector, atomic}
-use Rattle.walrus_operator_codes.specs.Unary.{unary_bytes, unary_bulks, low_unary_vectors, high_unary_vectors, unary_lanes, unary_code, unary_lane}
-use Rattle.walrus_operator_codes.specs.Binary.{binary_bytes, binary_bulks, low_binary_vectors, high_binary_vectors, binary_lanes, binary_code, binary_lane}
-use Rattle.walrus_operator_codes.specs.Ternary.{ternary_vectors, ternary_code}
+use Rattle.walrus_codes.specs.Runs.{byte, object, bulk, vector, atomic}
+use Rattle.walrus_codes.specs.Unary.{unary_bytes, unary_bulks, low_unary_vectors, high_unary_vectors, unary_lanes, unary_code, unary_lane}
+use Rattle.walrus_codes.specs.Binary.{binary_bytes, binary_bulks, low_binary_vectors, high_binary_vectors, binary_lanes, binary_code, binary_lane}
+use Rattle.walrus_codes.specs.Ternary.{ternary_vectors, ternary_code}
 use Rattle.walrus_pairing.specs.Looks.{Look}
 use Rattle.walrus_pairing.specs.Write.{seen_of, op, of_code, bare_code, numeric, lane_items}
 use Rattle.walrus_pairing.specs.Read.{instr_at}

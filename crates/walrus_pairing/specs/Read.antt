@@ -10,16 +10,16 @@ use Rattle.walrus_operators.specs.wasm_operators.declared.op_code.OpCode.{OpCode
 use Rattle.walrus_operators.specs.wasm_operators.Operators.{Seen}
 use Rattle.walrus_forms.specs.declared.value.HeapType.{HeapType}
 use Rattle.walrus_forms.specs.declared.value.RefType.{RefType}
-use Rattle.walrus_operator_codes.specs.walrus_instr.declared.instr.Value.TheVariants as constants
-use Rattle.walrus_operator_codes.specs.walrus_instr.declared.instr.Instr.{Instr}
-use Rattle.walrus_operator_codes.specs.walrus_instr.declared.instr.Instr.TheVariants as instrs
-use Rattle.walrus_operator_codes.specs.walrus_instr.declared.memory.MemArg.{MemArg}
-use Rattle.walrus_operator_codes.specs.walrus_instr.declared.memory.LoadSimdKind.{LoadSimdKind}
-use Rattle.walrus_operator_codes.specs.Runs.{Run, run, in_runs}
-use Rattle.walrus_operator_codes.specs.Unary.{unary_at}
-use Rattle.walrus_operator_codes.specs.Binary.{binary_at}
-use Rattle.walrus_operator_codes.specs.Ternary.{ternary_at}
-use Rattle.walrus_operator_codes.specs.Access.{load_at, store_at, simd_at, rmw_at, cmpxchg_at}
+use Rattle.walrus_codes.specs.walrus_instr.declared.instr.Value.TheVariants as constants
+use Rattle.walrus_codes.specs.walrus_instr.declared.instr.Instr.{Instr}
+use Rattle.walrus_codes.specs.walrus_instr.declared.instr.Instr.TheVariants as instrs
+use Rattle.walrus_codes.specs.walrus_instr.declared.memory.MemArg.{MemArg}
+use Rattle.walrus_codes.specs.walrus_instr.declared.memory.LoadSimdKind.{LoadSimdKind}
+use Rattle.walrus_codes.specs.Runs.{Run, run, in_runs}
+use Rattle.walrus_codes.specs.Unary.{unary_at}
+use Rattle.walrus_codes.specs.Binary.{binary_at}
+use Rattle.walrus_codes.specs.Ternary.{ternary_at}
+use Rattle.walrus_codes.specs.Access.{load_at, store_at, simd_at, rmw_at, cmpxchg_at}
 use Rattle.walrus_pairing.specs.declared.error.PairError.TheVariants as errors
 use Rattle.walrus_pairing.specs.Looks.{Look, Or, ◌>>=◌, found}
 use Rattle.walrus_pairing.specs.Types.{read_heap, read_value, named}

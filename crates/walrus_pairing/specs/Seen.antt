@@ -5,8 +5,8 @@ use Rattle.walrus_operators.specs.declared.immediates.Immediates.{Immediates}
 use Rattle.walrus_operators.specs.declared.immediates.Immediates.TheVariants.{Zero}
 use Rattle.walrus_operators.specs.declared.operator.Operator.{Operator}
 use Rattle.walrus_operators.specs.Operators.{seen}
-use Rattle.walrus_operator_codes.specs.walrus_instr.declared.instr.Instr.{Instr}
-use Rattle.walrus_operator_codes.specs.walrus_instr.declared.instr.Instr.TheVariants.{AtomicFence}
+use Rattle.walrus_codes.specs.walrus_instr.declared.instr.Instr.{Instr}
+use Rattle.walrus_codes.specs.walrus_instr.declared.instr.Instr.TheVariants.{AtomicFence}
 use Rattle.walrus_pairing.specs.declared.error.PairError.{PairError}
 use Rattle.walrus_pairing.specs.Looks.{Or}
 

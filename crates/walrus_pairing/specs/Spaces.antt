@@ -5,11 +5,11 @@ use Rattle.walrus_operators.specs.wasm_immediates.Items as items
 use Rattle.walrus_operators.specs.wasm_operators.Operators.{Seen}
 use Rattle.walrus_operators.specs.declared.immediates.Immediates.{Immediates}
 use Rattle.walrus_operators.specs.declared.immediates.Immediates.TheVariants as imm
-use Rattle.walrus_operator_codes.specs.wasm_operators.declared.op_code.OpCode.{OpCode}
-use Rattle.walrus_operator_codes.specs.walrus_instr.declared.instr.Instr.{Instr}
-use Rattle.walrus_operator_codes.specs.walrus_instr.declared.instr.Instr.TheVariants as instrs
-use Rattle.walrus_operator_codes.specs.Runs.{byte, object, bulk, atomic}
-use Rattle.walrus_operator_codes.specs.Access.{load_code, store_code, rmw_code, cmpxchg_code}
+use Rattle.walrus_codes.specs.wasm_operators.declared.op_code.OpCode.{OpCode}
+use Rattle.walrus_codes.specs.walrus_instr.declared.instr.Instr.{Instr}
+use Rattle.walrus_codes.specs.walrus_instr.declared.instr.Instr.TheVariants as instrs
+use Rattle.walrus_codes.specs.Runs.{byte, object, bulk, atomic}
+use Rattle.walrus_codes.specs.Access.{load_code, store_code, rmw_code, cmpxchg_code}
 use Rattle.walrus_pairing.specs.declared.error.PairError.TheVariants as errors
 use Rattle.walrus_pairing.specs.Looks.{Look, Or, ◌>>=◌, found, word}
 use Rattle.walrus_pairing.specs.Write.{op}

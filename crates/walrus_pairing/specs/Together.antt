@@ -11,7 +11,7 @@ use Rattle.walrus_forms.specs.declared.value.ValType.{ValType}
 use Rattle.walrus_forms.specs.declared.value.ValType.TheVariants.{I32, I64, F32, F64, V128, Ref}
 use Rattle.walrus_instr.specs.declared.instr.Instr.{Instr}
 use Rattle.walrus_instr.specs.declared.instr.Instr.TheVariants as instrs
-use Rattle.walrus_operator_codes.specs.Runs.{byte}
+use Rattle.walrus_codes.specs.Runs.{byte}
 use Rattle.walrus_pairing.specs.Looks.{Look, Or}
 use Rattle.walrus_pairing.specs.Types.{written_heap, written_value, read_value}
 use Rattle.walrus_pairing.specs.Write.{seen_of, either, of_code, bare_code, numeric, variable, memory_op, object_op, plain_at, select, operator_at}

@@ -7,16 +7,16 @@ use Rattle.walrus_operators.specs.wasm_immediates.Items.{Space, Types, Functions
 use Rattle.walrus_operators.specs.wasm_operators.declared.op_code.OpCode.{OpCode}
 use Rattle.walrus_operators.specs.wasm_operators.Operators.{Seen}
 use Rattle.walrus_forms.specs.declared.value.HeapType.{HeapType}
-use Rattle.walrus_operator_codes.specs.walrus_instr.declared.instr.Value.{Value as Constant}
-use Rattle.walrus_operator_codes.specs.walrus_instr.declared.instr.Value.TheVariants as constants
-use Rattle.walrus_operator_codes.specs.walrus_instr.declared.instr.Instr.{Instr}
-use Rattle.walrus_operator_codes.specs.walrus_instr.declared.instr.Instr.TheVariants as instrs
-use Rattle.walrus_operator_codes.specs.walrus_instr.declared.memory.MemArg.{MemArg}
-use Rattle.walrus_operator_codes.specs.Runs.{byte, object, bulk, vector, atomic}
-use Rattle.walrus_operator_codes.specs.Unary.{unary_code, unary_lane}
-use Rattle.walrus_operator_codes.specs.Binary.{binary_code, binary_lane}
-use Rattle.walrus_operator_codes.specs.Ternary.{ternary_code}
-use Rattle.walrus_operator_codes.specs.Access.{load_code, store_code, simd_code, simd_lane, rmw_code, cmpxchg_code}
+use Rattle.walrus_codes.specs.walrus_instr.declared.instr.Value.{Value as Constant}
+use Rattle.walrus_codes.specs.walrus_instr.declared.instr.Value.TheVariants as constants
+use Rattle.walrus_codes.specs.walrus_instr.declared.instr.Instr.{Instr}
+use Rattle.walrus_codes.specs.walrus_instr.declared.instr.Instr.TheVariants as instrs
+use Rattle.walrus_codes.specs.walrus_instr.declared.memory.MemArg.{MemArg}
+use Rattle.walrus_codes.specs.Runs.{byte, object, bulk, vector, atomic}
+use Rattle.walrus_codes.specs.Unary.{unary_code, unary_lane}
+use Rattle.walrus_codes.specs.Binary.{binary_code, binary_lane}
+use Rattle.walrus_codes.specs.Ternary.{ternary_code}
+use Rattle.walrus_codes.specs.Access.{load_code, store_code, simd_code, simd_lane, rmw_code, cmpxchg_code}
 use Rattle.walrus_pairing.specs.Looks.{Look, Or, ◌>>=◌, found}
 use Rattle.walrus_pairing.specs.Types.{written_heap, written_value}
 

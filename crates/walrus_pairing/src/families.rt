@@ -6,32 +6,22 @@ ghost use Rattle.walrus_pairing.specs.Seen.{as_seen, has_reserved_byte, is_fence
 ghost use Rattle.walrus_pairing.specs.Spaces.{named_code};
 ghost use Rattle.walrus_pairing.specs.Write.{bare_code, test_code, cast_code, constant, numeric, variable, memory_op, object_op, lane_items};
 
+use crate::code_tables::{
+    code_of_binary, code_of_simd, code_of_store, code_of_ternary, code_of_unary, lane_of_binary,
+    lane_of_simd, lane_of_unary, object,
+};
 use crate::spaces::{Pair, Target};
 use crate::written::{
     Written, access_op, function_op, global_op, heap_op, lane_access_op, local_op, one_op, op,
     two_op, type_number_op,
 };
 use walrus_arena::FunctionId;
+use walrus_codes::{atomic, code_of_cmpxchg, code_of_load, code_of_rmw};
 use walrus_index_maps::IdsToIndices;
 use walrus_instr::{Instr, Value};
-use walrus_operator_codes::{
-    atomic, code_of_binary, code_of_cmpxchg, code_of_load, code_of_rmw, code_of_simd,
-    code_of_store, code_of_ternary, code_of_unary, lane_of_binary, lane_of_simd, lane_of_unary,
-    object,
-};
 use walrus_operators::Immediates;
 use walrus_operators::operator_table::OpCode;
 use walrus_operators::the_reader::{Ieee32, Ieee64};
-
-// A code, written out: a call for each would be half of what the proofs of the large matches take.
-macro_rules! code {
-    ($prefix:literal, $number:literal) => {
-        OpCode {
-            prefix: $prefix,
-            number: $number,
-        }
-    };
-}
 
 // The code of an instruction without immediates.
 pub(crate) fn bare_code_of(instr: &Instr) -> Option<OpCode>

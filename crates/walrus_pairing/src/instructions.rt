@@ -1,20 +1,20 @@
 //! Instructions of a code and of immediates without names, and those of many codes that name an id.
 ghost use Rattle.std.specs.Prelude.{◌≡◌, [], ◌∷◌, None, option_map};
-ghost use Rattle.walrus_operator_codes.specs.walrus_instr.declared.instr.Instr.TheVariants as instrs;
-ghost use Rattle.walrus_operator_codes.specs.walrus_instr.declared.instr.Value.TheVariants as constants;
-ghost use Rattle.walrus_operator_codes.specs.Ternary.{ternary_at};
+ghost use Rattle.walrus_codes.specs.walrus_instr.declared.instr.Instr.TheVariants as instrs;
+ghost use Rattle.walrus_codes.specs.walrus_instr.declared.instr.Value.TheVariants as constants;
+ghost use Rattle.walrus_codes.specs.Ternary.{ternary_at};
 ghost use Rattle.walrus_operators.specs.wasm_immediates.Items.{DataSegments, ElementSegments, Tables, Types};
 ghost use Rattle.walrus_pairing.specs.Read as read;
 ghost use Rattle.walrus_pairing.specs.Spaces.{first_of, second_of, space};
 
+use crate::code_tables::{
+    Numeric, binary_of, cmpxchg_of, load_of, numeric_of, rmw_of, simd_of, store_of, unary_of,
+};
 use crate::error::PairError;
 use crate::spaces::{Pair, Target, id};
 use walrus_arena::{DataId, ElementId, MemoryId, TableId, TypeId};
 use walrus_forms::{HeapType, RefType};
 use walrus_instr::{Bits128, Instr, MemArg, Value};
-use walrus_operator_codes::{
-    Numeric, binary_of, cmpxchg_of, load_of, numeric_of, rmw_of, simd_of, store_of, unary_of,
-};
 use walrus_operators::immediate_forms::MemoryAccess;
 use walrus_operators::operator_table::OpCode;
 use walrus_operators::the_reader::{Ieee32, Ieee64};

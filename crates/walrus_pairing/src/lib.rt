@@ -12,6 +12,17 @@ macro_rules! got {
     };
 }
 
+// A code, written out: a call for each would be half of what the proofs of the large matches take.
+macro_rules! code {
+    ($prefix:literal, $number:literal) => {
+        OpCode {
+            prefix: $prefix,
+            number: $number,
+        }
+    };
+}
+
+mod code_tables;
 mod error;
 mod families;
 mod instructions;
@@ -30,21 +41,22 @@ pub use types::{read_heap, read_value, write_heap, write_value};
 
 // Passed on to crates above, which then list this one alone.
 pub mod access_codes {
-    pub use walrus_operator_codes::{code_of_load, code_of_store};
+    pub use crate::code_tables::code_of_store;
+    pub use walrus_codes::code_of_load;
 
     pub mod instr {
         pub use walrus_instr::{MemArg, Value};
     }
 
     pub mod operator_codes {
-        pub use walrus_operator_codes::{
+        pub use crate::code_tables::{
             byte, code_of_binary, code_of_unary, lane_of_binary, lane_of_unary,
         };
     }
 }
 
 pub mod operator_codes {
-    pub use walrus_operator_codes::{byte, object};
+    pub use crate::code_tables::{byte, object};
 }
 
 pub mod operators {

@@ -7,6 +7,7 @@ ghost use Rattle.walrus_pairing.specs.Looks.{id_of, word};
 ghost use Rattle.walrus_pairing.specs.Read.{pair_at, single_at};
 ghost use Rattle.walrus_pairing.specs.Spaces.{first_of, name_read, pair_read, second_of, space};
 
+use crate::code_tables::simd_of;
 use crate::error::PairError;
 use crate::instructions::{
     access_instr, arg_of, heap_instr, name_instr, pair_instr, type_number_instr,
@@ -16,7 +17,6 @@ use crate::types::read_heap;
 use walrus_arena::{FunctionId, Id};
 use walrus_index_maps::{IndicesToIds, UnknownIndex};
 use walrus_instr::Instr;
-use walrus_operator_codes::simd_of;
 use walrus_operators::immediate_forms::MemoryAccess;
 use walrus_operators::operator_table::OpCode;
 use wasm_ref_types::HeapType;

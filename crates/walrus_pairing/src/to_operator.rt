@@ -6,6 +6,9 @@ ghost use Rattle.walrus_pairing.specs.Seen.{as_seen, has_reserved_byte, is_fence
 ghost use Rattle.walrus_pairing.specs.Answers.{selected, IsSelectAnswer, IsAnswer};
 ghost use Rattle.walrus_pairing.specs.Write.{plain_at};
 
+use crate::code_tables::{
+    byte, code_of_binary, code_of_store, code_of_unary, lane_of_binary, lane_of_unary,
+};
 use crate::error::PairError;
 use crate::families::{
     bare_code_of, lane_op, write_constant, write_memory, write_numeric, write_object,
@@ -15,12 +18,10 @@ use crate::types::write_value;
 use crate::written::{Written, access_op, function_op, global_op, local_op, op};
 use std::alloc::Global;
 use walrus_arena::FunctionId;
+use walrus_codes::code_of_load;
 use walrus_forms::ValType;
 use walrus_index_maps::IdsToIndices;
 use walrus_instr::Instr;
-use walrus_operator_codes::{
-    byte, code_of_binary, code_of_load, code_of_store, code_of_unary, lane_of_binary, lane_of_unary,
-};
 use walrus_operators::Immediates;
 
 // Of an instruction without a list. It isn't inlined: what it keeps on the stack is then no part of each call.
@@ -79,10 +80,12 @@ fn select_operator(alloc: Global, ty: ValType, maps: &IdsToIndices) -> Written
     ensures answer { IsSelectAnswer (indices maps.now).types.number ty result }
     ensures reserved { has_reserved_byte result ≡ false }
 {
-    let ty = write_value(ty, maps)?;
+    let ty = got!(write_value(ty, maps));
     let mut types = Vec::new(alloc);
-    types.extend_from_slice(&[ty])?;
-    op(byte(0x1c), Immediates::Select(types))
+    match types.extend_from_slice(&[ty]) {
+        Ok(()) => op(byte(0x1c), Immediates::Select(types)),
+        Err(_) => Err(PairError::Memory),
+    }
 }
 
 /// The plain operator of an instruction in the body of this function, its names by their numbers; none for an instruction that holds

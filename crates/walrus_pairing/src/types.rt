@@ -35,8 +35,10 @@ fn write_abstract(ty: AbstractHeapType) -> written::AbstractHeapType
 fn type_number(maps: &IdsToIndices, id: TypeId) -> Result<u32, PairError>
     ensures { result ≡ type_of (indices maps.now).types.number id }
 {
-    maps.get_type_index(id)
-        .ok_or(PairError::Unknown(Space::Type))
+    match maps.get_type_index(id) {
+        Some(number) => Ok(number),
+        None => Err(PairError::Unknown(Space::Type)),
+    }
 }
 
 /// The heap type of an operator that is written for this one.
@@ -114,10 +116,10 @@ fn type_at(index: UnpackedIndex, maps: &IndicesToIds) -> Result<TypeId, PairErro
     ensures { result ≡ read_index (slice_get (ids maps.now).types) index }
 {
     match index {
-        UnpackedIndex::Module(index) => {
-            let id = maps.get_type(index)?;
-            Ok(id)
-        }
+        UnpackedIndex::Module(index) => match maps.get_type(index) {
+            Ok(id) => Ok(id),
+            Err(unknown) => Err(PairError::Unknown(unknown.0)),
+        },
         UnpackedIndex::RecGroup(_) => Err(PairError::Unknown(Space::Type)),
         UnpackedIndex::Id(_) => Err(PairError::Unknown(Space::Type)),
     }
@@ -163,7 +165,7 @@ pub fn read_value(ty: written::ValType, maps: &IndicesToIds) -> Result<ValType, 
         written::ValType::F64 => Ok(ValType::F64),
         written::ValType::V128 => Ok(ValType::V128),
         written::ValType::Ref(ty) => {
-            let heap_type = read_heap(ty.heap_type(), maps)?;
+            let heap_type = got!(read_heap(ty.heap_type(), maps));
             Ok(ValType::Ref(RefType {
                 nullable: ty.is_nullable(),
                 heap_type,

@@ -22,7 +22,7 @@ use Rattle.walrus_parsed_linked.specs.walrus_parsed_items.walrus_parse.walrus_fi
 use Rattle.walrus_parsed_linked.specs.walrus_pairing.walrus_instr.declared.instr.Instr.{Instr}
 use Rattle.walrus_parsed_linked.specs.walrus_pairing.walrus_instr.declared.instr.Instr.TheVariants as instrs
 use Rattle.walrus_parsed_linked.specs.walrus_parsed_items.walrus_parse.walrus_file_bodies.walrus_items_into.walrus_module_env.walrus_handler_types.walrus_handler_laws.walrus_tree.walrus_walks.Tree.{children}
-use Rattle.walrus_parsed_linked.specs.walrus_pairing.walrus_operator_codes.Runs.{Run as CodeRun, in_runs}
+use Rattle.walrus_parsed_linked.specs.walrus_pairing.walrus_codes.Runs.{Run as CodeRun, in_runs}
 use Rattle.walrus_parsed_linked.specs.walrus_pairing.Laws.{OperatorComesBack, all}
 use Rattle.walrus_parsed_linked.specs.walrus_pairing.Read.{at, of_bytes, of_objects, instr_at}
 use Rattle.walrus_parsed_linked.specs.walrus_pairing.Write.{operator_at}

@@ -13,7 +13,7 @@ use Rattle.walrus_marks.specs.walrus_instr.declared.instr.Instr.TheVariants as i
 use Rattle.walrus_marks.specs.walrus_instr.declared.instr.Instr.{Instr}
 use Rattle.walrus_marks.specs.walrus_instr.declared.seq.InstrSeqType.TheVariants.{Simple, MultiValue}
 use Rattle.walrus_marks.specs.walrus_instr.declared.seq.InstrSeqType.{InstrSeqType}
-use Rattle.walrus_parsed_served.specs.walrus_parsed_linked.walrus_pairing.walrus_operator_codes.Runs.{Run as CodeRun, byte, in_runs}
+use Rattle.walrus_parsed_served.specs.walrus_parsed_linked.walrus_pairing.walrus_codes.Runs.{Run as CodeRun, byte, in_runs}
 use Rattle.walrus_parsed_served.specs.walrus_parsed_linked.walrus_pairing.Laws.{OperatorComesBack, Renames, all}
 use Rattle.walrus_parsed_served.specs.walrus_parsed_linked.walrus_pairing.Looks.{Or, ◌>>=◌}
 use Rattle.walrus_parsed_served.specs.walrus_parsed_linked.walrus_pairing.Read.{at, of_bytes, of_objects, instr_at}

@@ -9,7 +9,7 @@ use Rattle.walrus_into_laws.specs.walrus_meaning.walrus_local_function.walrus_bo
 use Rattle.walrus_into_laws.specs.walrus_meaning.walrus_local_function.walrus_body_locals.wasm_grammar.Values.{must}
 use Rattle.wasm_module_rules.specs.Keeps.{first_none, must_holds}
 use Rattle.wasm_import_links.specs.wasm_ruled_modules.Rules.{AreKnown, IsExpr}
-use Rattle.walrus_into_laws.specs.walrus_meaning.walrus_body_writer.walrus_pairing.walrus_operator_codes.wasm_operators.Operators.{Seen}
+use Rattle.walrus_into_laws.specs.walrus_meaning.walrus_body_writer.walrus_pairing.walrus_codes.wasm_operators.Operators.{Seen}
 use Rattle.walrus_into_laws.specs.walrus_meaning.walrus_local_function.walrus_body_locals.wasm_body_grammar.wasm_operator_bytes.Names.{renamed_heap, renamed_item, renamed_operator}
 use Rattle.walrus_into_laws.specs.walrus_meaning.walrus_local_function.walrus_body_locals.wasm_ref_types.declared.heap.HeapType.{HeapType as Read}
 use Rattle.walrus_into_laws.specs.walrus_meaning.walrus_local_function.walrus_body_locals.wasm_ref_types.declared.heap.HeapType.TheVariants as read

@@ -29,8 +29,8 @@ use Rattle.walrus_tables_into.specs.walrus_sections_into.walrus_instr.declared.c
 use Rattle.walrus_tables_into.specs.walrus_sections_into.walrus_instr.declared.const_expr.ConstOp.TheVariants as consts
 use Rattle.walrus_tables_into.specs.walrus_sections_into.walrus_instr.declared.instr.Value.TheVariants as values
 use Rattle.walrus_tables_into.specs.walrus_sections_into.walrus_instr.Constants.{const_of}
-use Rattle.walrus_tables_into.specs.walrus_sections_into.walrus_pairing.walrus_operator_codes.Unary.{unary_bytes}
-use Rattle.walrus_tables_into.specs.walrus_sections_into.walrus_pairing.walrus_operator_codes.Binary.{binary_bytes}
+use Rattle.walrus_tables_into.specs.walrus_sections_into.walrus_pairing.walrus_codes.Unary.{unary_bytes}
+use Rattle.walrus_tables_into.specs.walrus_sections_into.walrus_pairing.walrus_codes.Binary.{binary_bytes}
 use Rattle.walrus_tables_into.specs.walrus_sections_into.walrus_pairing.Looks.{Look}
 use Rattle.walrus_tables_into.specs.walrus_sections_into.walrus_pairing.Types.{read_heap}
 use Rattle.walrus_tables_into.specs.walrus_sections_into.walrus_pairing.Read.{name_at, counted_at, of_items}

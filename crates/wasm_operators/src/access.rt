@@ -22,13 +22,13 @@ fn has_memory_index(flags: u32) -> bool
 pub fn read_access(reader: &mut BinaryReader<'_>) -> Result<MemoryAccess>
     ensures { Reads access_at plain reader.old reader.new result }
 {
-    let flags = reader.read_var_u32()?;
+    let flags = got!(reader.read_var_u32());
     let (align, memory) = if has_memory_index(flags) {
-        (flags - 64, reader.read_var_u32()?)
+        (flags - 64, got!(reader.read_var_u32()))
     } else {
         (flags, 0)
     };
-    let offset = reader.read_var_u64()?;
+    let offset = got!(reader.read_var_u64());
     Ok(MemoryAccess {
         align,
         memory,

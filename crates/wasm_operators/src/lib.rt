@@ -2,6 +2,16 @@
 //! exceptions, threads and wide arithmetic).
 #![tactic(auto)]
 
+// What a call gives; a refusal is handed on. (`?` would convert it, though both are of one type: a call more for each, and longer proofs.)
+macro_rules! got {
+    ($call:expr) => {
+        match $call {
+            Ok(found) => found,
+            Err(error) => return Err(error),
+        }
+    };
+}
+
 mod access;
 mod entry;
 pub mod laws;

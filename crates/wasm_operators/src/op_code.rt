@@ -58,7 +58,7 @@ impl OpCode {
         ensures kind { IfOk result (λ read. IsKindOrPlace reader.old read.0 read.1) }
     {
         let offset = reader.original_position();
-        let code = OpCode::from_reader(alloc, reader)?;
+        let code = got!(OpCode::from_reader(alloc, reader));
         match code.kind(reader.features()) {
             Some(kind) => Ok((code, Ok(kind))),
             None => Ok((code, Err(offset))),
@@ -94,9 +94,9 @@ impl<'a> FromReader<'a> for OpCode {
     #[inline]
     #[tactic(auto, unfolding(crate::specs::Operators::code_at))]
     fn from_reader(_alloc: Global, reader: &mut BinaryReader<'a>) -> Result<Self> {
-        let byte = reader.read_u8()?;
+        let byte = got!(reader.read_u8());
         if 0xfb <= byte && byte <= 0xfe {
-            let number = reader.read_var_u32()?;
+            let number = got!(reader.read_var_u32());
             return Ok(OpCode {
                 prefix: byte,
                 number,

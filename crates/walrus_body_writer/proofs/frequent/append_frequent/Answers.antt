@@ -2,8 +2,8 @@ use Rattle.std.proofs.Common.{ℕ, ap, sym, refl, ◌∙◌}
 use Rattle.wasm_immediates.specs.Items.{Functions, Globals, Labels, Locals, Names}
 use Rattle.std.specs.Prelude.{[], ◌∷◌, None, Option}
 use Rattle.wasm_operators.specs.declared.op_code.OpCode.{OpCode}
-use Rattle.walrus_pairing.specs.walrus_operator_codes.Binary.{binary_lane}
-use Rattle.walrus_pairing.specs.walrus_operator_codes.Unary.{unary_lane}
+use Rattle.walrus_pairing.specs.walrus_codes.Binary.{binary_lane}
+use Rattle.walrus_pairing.specs.walrus_codes.Unary.{unary_lane}
 use Rattle.walrus_pairing.specs.Write.{access, lane_items, one, op}
 use Rattle.walrus_body_text.specs.Doing.{label_by}
 use Rattle.walrus_body_writer.specs.Numbers.{look_of}

@@ -4,10 +4,10 @@ use Rattle.walrus_operators.proofs.reader.read_code.Goals as goal
 
 pub returns-clause-code : goal.returns-clause-code
 returns-clause-code c = record {
-  value = code_next c.args.reader.now c.in_ok-byte.byte c.from.result (rest c.read_u8.new.self) c.from.ensures c.in_ok-byte.ensures.value c.args.kind c.requires;
+  value = code_next c.args.reader.now c.in-Ok.found c.from.result (rest c.read_u8.new.self) c.from.ensures c.in-Ok.ensures.value c.args.kind c.requires;
   place = tt;
   moves = c.read_u8.ensures.moves;
 }
 
 pub returns-clause-kind : goal.returns-clause-kind
-returns-clause-kind c = kind_next c.args.reader.now c.in_ok-byte.byte c.from.result (rest c.read_u8.new.self) c.from.ensures c.in_ok-byte.ensures.value c.args.kind c.requires
+returns-clause-kind c = kind_next c.args.reader.now c.in-Ok.found c.from.result (rest c.read_u8.new.self) c.from.ensures c.in-Ok.ensures.value c.args.kind c.requires

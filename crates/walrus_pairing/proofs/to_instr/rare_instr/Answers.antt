@@ -1,5 +1,5 @@
 use Rattle.std.proofs.Common.{Option, Ok, ap}
-use Rattle.walrus_operator_codes.specs.walrus_instr.declared.instr.Instr.{Instr}
+use Rattle.walrus_codes.specs.walrus_instr.declared.instr.Instr.{Instr}
 use Rattle.walrus_pairing.proofs.to_instr.rare_instr.Goals as goal
 
 pub returns-in-Bare : goal.returns-in-Bare
