@@ -1,16 +1,16 @@
 #!/usr/bin/env python3
 """Times the programs on names and types that are bad for a table of them, and prints the time of each doubling.
 
-    bench/collisions.py [--rounds N] [--most N] [--instructions]
+    bench/collisions.py [--rounds N] [--least N] [--most N] [--only WORD] [--instructions] [--small-pages]
 
 Exports are read by both programs, types by walrus_inspect alone. The names of one row all collide under the hasher of
 the kit's hash tables, whose seed is fixed; those of the next differ in their last bytes alone, behind a long prefix that
 all have; those of the last are plain. Types are function types of ten parameters, in no order, behind fifty more that all
 have in common, or without these; those of the last row are of ten lists of 14 parameters, and the first halves of their hashes are
 all the same. A time is the least of the rounds, from the start of the program to its end. Wanted is a
-factor of at most 2.3 a doubling. The sizes take turns, so that what else the machine does meets all of them alike. With
+factor of at most 2.2 a doubling. The sizes take turns, so that what else the machine does meets all of them alike. With
 --instructions those of the processor are counted by valgrind, which no other work and no cache disturbs, in place of the
-time.
+time. The C library asks for large pages, as it does for the programs in bin/, unless --small-pages is given.
 """
 import argparse
 import os
@@ -20,6 +20,7 @@ import subprocess
 import sys
 import tempfile
 
+from compare import LARGE_PAGES
 from make_module import section, unsigned, vector
 
 ROOT = os.path.dirname(os.path.dirname(os.path.abspath(__file__)))
@@ -93,19 +94,19 @@ ROWS = [
 ]
 
 
-def seconds(words):
+def seconds(words, settings):
     """The seconds of the processor that a program took."""
     before = resource.getrusage(resource.RUSAGE_CHILDREN)
-    subprocess.run(words, check=True, stdout=subprocess.DEVNULL)
+    subprocess.run(words, check=True, stdout=subprocess.DEVNULL, env={**os.environ, **settings})
     after = resource.getrusage(resource.RUSAGE_CHILDREN)
     return after.ru_utime + after.ru_stime - before.ru_utime - before.ru_stime
 
 
-def instructions(words):
+def instructions(words, settings):
     """The instructions of the processor that a program took, in millions."""
     with tempfile.NamedTemporaryFile(suffix=".count") as file:
         tool = ["valgrind", "--tool=callgrind", f"--callgrind-out-file={file.name}", *words]
-        said = subprocess.run(tool, capture_output=True, text=True, check=True).stderr
+        said = subprocess.run(tool, capture_output=True, text=True, check=True, env={**os.environ, **settings}).stderr
     return int(re.search(r"Collected : (\d+)", said)[1]) / 1e6
 
 
@@ -115,7 +116,10 @@ def main():
     words.add_argument("--most", type=int, default=640_000, help="the most names or types of a module")
     words.add_argument("--least", type=int, default=20_000, help="the least, doubled up to the most")
     words.add_argument("--instructions", action="store_true", help="count instructions in place of the time")
+    words.add_argument("--only", default="", help="the rows that have this word alone")
+    words.add_argument("--small-pages", action="store_true")
     asked = words.parse_args()
+    settings = {} if asked.small_pages else LARGE_PAGES
     cost, unit, rounds = (instructions, "million instructions", 1) if asked.instructions else (seconds, "s", asked.rounds)
     for name in ("wasm_rewriter", "walrus_inspect"):
         subprocess.run([f"{ROOT}/bin/{name}", "--help"], check=True, stdout=subprocess.DEVNULL)
@@ -124,6 +128,8 @@ def main():
         sizes.append(2 * sizes[-1])
     with tempfile.TemporaryDirectory() as folder:
         for kind, program, module in ROWS:
+            if asked.only not in kind:
+                continue
             output = [f"{folder}/out.wasm"] if program == REWRITER else []
             for count in sizes:
                 with open(f"{folder}/{count}.wasm", "wb") as file:
@@ -131,7 +137,7 @@ def main():
             took = {count: [] for count in sizes}
             for _ in range(rounds):
                 for count in sizes:
-                    took[count].append(cost([program, f"{folder}/{count}.wasm", *output]))
+                    took[count].append(cost([program, f"{folder}/{count}.wasm", *output], settings))
             last = None
             for count in sizes:
                 best = min(took[count])
