@@ -79,9 +79,12 @@ fn add(found: &mut Vec<LocalId>, hints: &mut Vec<u32>, id: LocalId) -> Result<()
         hints.resize(hints.len().saturating_mul(2), 0)?;
     }
     found.push(id)?;
+    let Ok(hint) = u32::try_from(at) else {
+        return Ok(());
+    };
     let slot = slot_of(id, hints.len());
     if slot < hints.len() {
-        hints[slot] = at as u32;
+        hints[slot] = hint;
     }
     Ok(())
 }
