@@ -7,10 +7,12 @@ Exports are read by both programs, types by walrus_inspect alone. The names of o
 the kit's hash tables, whose seed is fixed; those of the next differ in their last bytes alone, behind a long prefix that
 all have; those of the last are plain. Types are function types of ten parameters, in no order, behind fifty more that all
 have in common, or without these; those of the last row are of ten lists of 14 parameters, and the first halves of their hashes are
-all the same. A time is the least of the rounds, from the start of the program to its end. Wanted is a
-factor of at most 2.2 a doubling. The sizes take turns, so that what else the machine does meets all of them alike. With
---instructions those of the processor are counted by valgrind, which no other work and no cache disturbs, in place of the
-time. The C library asks for large pages, as it does for the programs in bin/, unless --small-pages is given.
+all the same. A time is the least of the rounds, from the start of the program to its end, and in brackets its own part of that, without the
+system's: some hosts take ten times as long for a new page where a program has more of them than one shortly before had, so that pages alone
+(bench/pages.c) take seven times the time for twice as many. Wanted is a factor of at most 2.2 a doubling. The sizes take turns, so that
+what else the machine does meets all of them alike. With --instructions those of the processor are counted by valgrind, which no other work
+and no cache disturbs, in place of the time. The C library asks for large pages, as it does for the programs in bin/, unless --small-pages
+is given.
 """
 import argparse
 import os
@@ -95,11 +97,12 @@ ROWS = [
 
 
 def seconds(words, settings):
-    """The seconds of the processor that a program took."""
+    """The seconds of the processor that a program took, and those that it took itself."""
     before = resource.getrusage(resource.RUSAGE_CHILDREN)
     subprocess.run(words, check=True, stdout=subprocess.DEVNULL, env={**os.environ, **settings})
     after = resource.getrusage(resource.RUSAGE_CHILDREN)
-    return after.ru_utime + after.ru_stime - before.ru_utime - before.ru_stime
+    own = after.ru_utime - before.ru_utime
+    return own + after.ru_stime - before.ru_stime, own
 
 
 def instructions(words, settings):
@@ -107,7 +110,8 @@ def instructions(words, settings):
     with tempfile.NamedTemporaryFile(suffix=".count") as file:
         tool = ["valgrind", "--tool=callgrind", f"--callgrind-out-file={file.name}", *words]
         said = subprocess.run(tool, capture_output=True, text=True, check=True, env={**os.environ, **settings}).stderr
-    return int(re.search(r"Collected : (\d+)", said)[1]) / 1e6
+    counted = int(re.search(r"Collected : (\d+)", said)[1]) / 1e6
+    return counted, counted
 
 
 def main():
@@ -140,10 +144,10 @@ def main():
                     took[count].append(cost([program, f"{folder}/{count}.wasm", *output], settings))
             last = None
             for count in sizes:
-                best = min(took[count])
-                factor = "" if last is None else f", {best / last:.2f} times"
-                print(f"{count:,} {kind}: {best:.3f} {unit}{factor}", flush=True)
-                last = best
+                best, own = map(min, zip(*took[count]))
+                factor = "" if last is None else f", {best / last[0]:.2f} times ({own / last[1]:.2f})"
+                print(f"{count:,} {kind}: {best:.3f} ({own:.3f}) {unit}{factor}", flush=True)
+                last = best, own
 
 
 if __name__ == "__main__":
