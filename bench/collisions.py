@@ -8,7 +8,7 @@ the kit's hash tables, whose seed is fixed; those of the next differ in their la
 all have; those of the last are plain. Types are function types of ten parameters, in no order, behind fifty more that all
 have in common, or without these; those of the last row are of ten lists of 14 parameters, and the first halves of their hashes are
 all the same. A time is the least of the rounds, from the start of the program to its end, and in brackets its own part of that, without the
-system's: some hosts take ten times as long for a new page where a program has more of them than one shortly before had, so that pages alone
+system's (as the kernel samples it: of some hundredths of a second it says little): some hosts take ten times as long for a new page where a program has more of them than one shortly before had, so that pages alone
 (bench/pages.c) take seven times the time for twice as many. Wanted is a factor of at most 2.2 a doubling. The sizes take turns, so that
 what else the machine does meets all of them alike. With --instructions those of the processor are counted by valgrind, which no other work
 and no cache disturbs, in place of the time. The C library asks for large pages, as it does for the programs in bin/, unless --small-pages
@@ -144,10 +144,10 @@ def main():
                     took[count].append(cost([program, f"{folder}/{count}.wasm", *output], settings))
             last = None
             for count in sizes:
-                best, own = map(min, zip(*took[count]))
-                factor = "" if last is None else f", {best / last[0]:.2f} times ({own / last[1]:.2f})"
+                best, own = min(took[count])
+                factor = f", {best / last[0]:.2f} times ({own / last[1]:.2f})" if last else ""
                 print(f"{count:,} {kind}: {best:.3f} ({own:.3f}) {unit}{factor}", flush=True)
-                last = best, own
+                last = best, max(own, 0.001)
 
 
 if __name__ == "__main__":
