@@ -5,8 +5,7 @@ use crate::words::word;
 use anyhow::Result;
 use std::alloc::{AllocError, Global};
 use std::fs;
-use walrus_operator_writer::write_operator;
-use walrus_operators::{Immediates, OperatorReader};
+use walrus_operators::{Immediates, OperatorReader, write_operator};
 use wasm_reader::BinaryReader;
 
 // What was seen of operators: how many there are, a sum over them, and how many bytes were written.

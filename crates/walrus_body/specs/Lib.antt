@@ -6,13 +6,13 @@ pub use Rattle.walrus_index_maps.specs.Views
 pub use Rattle.wasm_operators.specs.Kinds as OperatorKinds
 pub use Rattle.wasm_operators.specs.Operators as OperatorTable
 pub use Rattle.wasm_operators.specs.Table
-pub use Rattle.wasm_immediates.specs.Items
-pub use Rattle.wasm_operator_bytes.specs.Bytes as OperatorBytes
-pub use Rattle.wasm_operator_bytes.specs.Names as OperatorNames
+pub use Rattle.wasm_operators.specs.Items
+pub use Rattle.wasm_operators.specs.Bytes as OperatorBytes
+pub use Rattle.wasm_operators.specs.Names as OperatorNames
 pub use Rattle.walrus_operators.specs.Copies as OperatorCopies
 pub use Rattle.walrus_operators.specs.Immediates
 pub use Rattle.walrus_operators.specs.Operators
-pub use Rattle.walrus_operator_writer.specs.Appended
+pub use Rattle.walrus_operators.specs.Appended
 -- Operators and instructions.
 pub use Rattle.walrus_local_function.specs.walrus_body_writer.walrus_pairing.Looks
 pub use Rattle.walrus_local_function.specs.walrus_body_writer.walrus_pairing.Read as PairedInstructions

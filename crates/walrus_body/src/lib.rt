@@ -8,31 +8,54 @@ pub use walrus_emission_laws::body_names::FunctionFacts;
 pub use walrus_emission_laws::body_writer::Output;
 pub use walrus_index_maps::{IdsToIndices, IndicesToIds, Space as IndexSpace, UnknownIndex};
 pub use walrus_local_function::LocalFunction;
-pub use walrus_operator_writer::write_operator;
-pub use walrus_operators::{Immediates, Operator, OperatorError, OperatorReader};
+pub use walrus_operators::{Immediates, Operator, OperatorError, OperatorReader, write_operator};
 pub use wasm_formats::{Form, Limited, Space};
-pub use wasm_immediates::{BlockType, Clause, MemoryAccess};
-pub use wasm_operators::{Flow, OpCode};
+pub use wasm_operators::{BlockType, Clause, Flow, MemoryAccess, OpCode};
 
 /// Laws of the words that contracts cite.
 pub mod laws {
     /// Operators: their table, what they spell, what each names, and the instruction that each is paired with.
     pub mod operators {
-        pub use walrus_operator_writer::laws as writing;
-        pub use walrus_operators::laws as reading;
-        pub use wasm_immediates::laws as immediates;
-        pub use wasm_operators::laws as table;
+        /// Operators that are read.
+        pub mod reading {
+            pub use walrus_operators::laws::offsets_of_operators_move;
+        }
+
+        /// Operators that are written.
+        pub mod writing {
+            pub use walrus_operators::laws::{
+                read_operators_can_be_written, written_operators_are_read_again,
+                written_operators_are_shortest,
+            };
+        }
+
+        /// What may follow a code, item by item.
+        pub mod immediates {
+            pub use wasm_operators::laws::{
+                fronts_of_immediates_end_early, immediates_are_final, spelled_immediates_are_read,
+                spellings_of_immediates_are_prefix_free,
+            };
+        }
+
+        /// The table of operators.
+        pub mod table {
+            pub use wasm_operators::laws::{
+                fronts_of_operators_end_early, operators_are_final, operators_in_range_are_spelled,
+                operators_in_range_are_written, spelled_operators_are_read,
+                spellings_of_operators_are_prefix_free,
+            };
+        }
 
         /// What is written for operators.
         pub mod bytes {
-            pub use wasm_operator_bytes::laws::{
+            pub use wasm_operators::laws::{
                 written_operators_are_read_back, written_operators_are_shortest,
             };
         }
 
         /// What operators name, and operators renamed.
         pub mod names {
-            pub use wasm_operator_bytes::laws::{
+            pub use wasm_operators::laws::{
                 names_are_renamed, renamings_compose, the_same_numbers_keep_an_operator,
             };
         }

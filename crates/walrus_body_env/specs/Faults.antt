@@ -1,8 +1,8 @@
 -- Why a body is refused: the number of a fault and its place; what a validator's call answers.
 use Rattle.std.specs.Prelude.{◌≡◌, ℕ, Option, Some, None, Result, Ok, Err}
-use Rattle.walrus_operators.specs.wasm_immediates.wasm_reader.declared.error.Error.{Error}
-use Rattle.walrus_operators.specs.wasm_immediates.wasm_reader.declared.error.ErrorKind.{ErrorKind}
-use Rattle.walrus_operators.specs.wasm_immediates.wasm_reader.declared.error.ErrorKind.TheVariants as kinds
+use Rattle.walrus_operators.specs.wasm_operators.wasm_reader.declared.error.Error.{Error}
+use Rattle.walrus_operators.specs.wasm_operators.wasm_reader.declared.error.ErrorKind.{ErrorKind}
+use Rattle.walrus_operators.specs.wasm_operators.wasm_reader.declared.error.ErrorKind.TheVariants as kinds
 use Rattle.walrus_body_env.specs.declared.error.BodyError.{BodyError}
 use Rattle.walrus_body_env.specs.declared.error.BodyError.TheVariants.{Read, Index, TypeForm, Nesting, Position, Operator, Unsupported, Bounds, Limit, NoTree, Memory}
 

@@ -2,7 +2,7 @@
 
 ghost use Rattle.std.specs.Prelude.{◌≡◌, ℕ, Option};
 ghost use Rattle.walrus_operators.specs.wasm_operators.Operators.{Seen};
-ghost use Rattle.walrus_operators.specs.wasm_immediates.wasm_ref_types.declared.value.ValType.{ValType as Value};
+ghost use Rattle.walrus_operators.specs.wasm_operators.wasm_ref_types.declared.value.ValType.{ValType as Value};
 ghost use Rattle.walrus_operators.specs.Operators.{seen};
 ghost use Rattle.walrus_body_env.specs.declared.error.BodyError.{BodyError as Fault};
 ghost use Rattle.walrus_body_env.specs.Faults.{Answers};

@@ -5,7 +5,7 @@ use Rattle.walrus_instr.specs.declared.instr.Instr.TheVariants as instrs
 use Rattle.walrus_instr.specs.declared.seq.InstrLocId.{InstrLocId}
 use Rattle.walrus_instr.specs.declared.seq.InstrSeq.{InstrSeq}
 use Rattle.walrus_tree.specs.Text.{Piece, Operator, Else, Catch, CatchAll, Delegate, End}
-use Rattle.wasm_immediates.specs.Items.{Tags, Locals, DataSegments}
+use Rattle.wasm_operators.specs.Items.{Tags, Locals, DataSegments}
 use Rattle.wasm_operators.specs.Operators.{Seen}
 use Rattle.wasm_operators.specs.Table.{structure_rows, call_rows}
 use Rattle.wasm_normal_form.specs.Roles.{Placed, Role, Turns, Ends, weight_of, role}

@@ -1,9 +1,9 @@
 -- Lemmas: what is written for an instruction tells its form.
 use Rattle.std.specs.Prelude.{ℕ, ◌≡◌, ◌⊎◌, List, [], ◌∷◌, map, slice_get, Some, None, Ok, Err, refl}
 use Rattle.std.proofs.Common.{ap, subst, inl, inr, ◌∙◌}
-use Rattle.wasm_immediates.specs.declared.block_type.BlockType.{BlockType}
-use Rattle.wasm_immediates.specs.declared.clause.Clause.{Clause}
-use Rattle.wasm_immediates.specs.Items.{Item, Types, Labels, Names, Byte, Heap, Block, ManyLabels, ManyClauses}
+use Rattle.wasm_operators.specs.declared.block_type.BlockType.{BlockType}
+use Rattle.wasm_operators.specs.declared.clause.Clause.{Clause}
+use Rattle.wasm_operators.specs.Items.{Item, Types, Labels, Names, Byte, Heap, Block, ManyLabels, ManyClauses}
 use Rattle.wasm_operators.specs.declared.op_code.OpCode.{OpCode}
 use Rattle.wasm_operators.specs.Operators.{Seen}
 use Rattle.wasm_ref_types.specs.declared.heap.HeapType.{HeapType as WrittenHeap}

@@ -4,14 +4,14 @@ use Rattle.std.specs.Prelude.{ℕ, ◌≡◌, List, [], ◌∷◌, map, slice_ge
 use Rattle.std.proofs.lemmas.List.{map-id}
 use Rattle.wasm_ref_types.specs.declared.heap.HeapType.{HeapType as WrittenHeap}
 use Rattle.wasm_ref_types.specs.declared.value.ValType.{ValType as WrittenValue}
-use Rattle.wasm_immediates.specs.declared.block_type.BlockType.{BlockType}
-use Rattle.wasm_immediates.specs.declared.block_type.BlockType.TheVariants as blocks
-use Rattle.wasm_immediates.specs.declared.clause.Clause.{Clause}
-use Rattle.wasm_immediates.specs.declared.clause.Clause.TheVariants as handlers
-use Rattle.wasm_immediates.specs.Items.{Types, Tags, Labels, Item, Names, Byte, Heap, Block, ManyLabels, ManyClauses}
+use Rattle.wasm_operators.specs.declared.block_type.BlockType.{BlockType}
+use Rattle.wasm_operators.specs.declared.block_type.BlockType.TheVariants as blocks
+use Rattle.wasm_operators.specs.declared.clause.Clause.{Clause}
+use Rattle.wasm_operators.specs.declared.clause.Clause.TheVariants as handlers
+use Rattle.wasm_operators.specs.Items.{Types, Tags, Labels, Item, Names, Byte, Heap, Block, ManyLabels, ManyClauses}
 use Rattle.wasm_operators.specs.declared.op_code.OpCode.{OpCode}
 use Rattle.wasm_operators.specs.Operators.{Seen}
-use Rattle.wasm_operator_bytes.specs.Names.{Renaming, renamed_block, renamed_clause, renamed_item, renamed_operator}
+use Rattle.wasm_operators.specs.Names.{Renaming, renamed_block, renamed_clause, renamed_item, renamed_operator}
 use Rattle.walrus_forms.specs.declared.value.RefType.{RefType}
 use Rattle.walrus_instr.specs.declared.instr.Instr.{Instr}
 use Rattle.walrus_instr.specs.declared.instr.Instr.TheVariants as instrs

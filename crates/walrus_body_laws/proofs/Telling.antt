@@ -1,7 +1,7 @@
 -- Lemmas: what is written for an instruction stands as it does, and names the locals and data segments that it names.
 use Rattle.std.specs.Prelude.{ℕ, ◌≡◌, true, false, List, [], ◌∷◌, map, slice_get, Option, Some, None, Ok, Err, refl}
 use Rattle.std.proofs.Common.{ap, sym}
-use Rattle.wasm_immediates.specs.Items.{Space, Types, Functions, Tables, Memories, Tags, Globals, ElementSegments, DataSegments, Locals, Labels, Names, Number, Byte, Heap, Block, Access, ManyValues, ManyClauses}
+use Rattle.wasm_operators.specs.Items.{Space, Types, Functions, Tables, Memories, Tags, Globals, ElementSegments, DataSegments, Locals, Labels, Names, Number, Byte, Heap, Block, Access, ManyValues, ManyClauses}
 use Rattle.wasm_operators.specs.declared.op_code.OpCode.{OpCode}
 use Rattle.wasm_operators.specs.Operators.{Seen}
 use Rattle.wasm_operators.specs.Table.{structure_rows, call_rows, plain_rows, fb_rows, fc_rows, fd_rows, fe_rows}

@@ -4,7 +4,7 @@ use Rattle.std.specs.List.{flat_map}
 use Rattle.walrus_instr.specs.declared.instr.Instr.{Instr}
 use Rattle.walrus_instr.specs.declared.instr.Instr.TheVariants as instrs
 use Rattle.walrus_instr.specs.declared.seq.InstrSeq.{InstrSeq}
-use Rattle.wasm_immediates.specs.Items.{Locals, DataSegments, Item, Names}
+use Rattle.wasm_operators.specs.Items.{Locals, DataSegments, Item, Names}
 use Rattle.wasm_operators.specs.declared.op_code.OpCode.{OpCode}
 use Rattle.wasm_operators.specs.Operators.{Seen, flow_of}
 use Rattle.wasm_normal_form.specs.Roles.{Placed, Role, Opens, Runs, role_in}

@@ -1,8 +1,8 @@
 -- What is written under a map of ids, and where each id is its own number.
 use Rattle.std.specs.Prelude.{◌≡◌, ℕ, List, map}
 use Rattle.walrus_instr.specs.declared.seq.InstrSeq.{InstrSeq}
-use Rattle.wasm_immediates.specs.Items.{Labels}
-use Rattle.wasm_operator_bytes.specs.Names.{Renaming, renamed_operator}
+use Rattle.wasm_operators.specs.Items.{Labels}
+use Rattle.wasm_operators.specs.Names.{Renaming, renamed_operator}
 use Rattle.wasm_normal_form.specs.Roles.{Placed, placed}
 use Rattle.walrus_pairing.specs.Looks.{Look}
 use Rattle.walrus_pairing.specs.Sends.{Sends}

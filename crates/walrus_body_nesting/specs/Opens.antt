@@ -8,7 +8,7 @@ use Rattle.walrus_body_env.specs.walrus_instr.declared.instr.LegacyCatch.{Legacy
 use Rattle.walrus_body_env.specs.walrus_instr.declared.seq.InstrLocId.{InstrLocId}
 use Rattle.walrus_body_env.specs.walrus_instr.declared.seq.InstrSeqType.{InstrSeqType}
 use Rattle.walrus_builder.specs.Built.{Seq}
-use Rattle.wasm_normal_form.specs.wasm_immediates.declared.block_type.BlockType.{BlockType}
+use Rattle.wasm_normal_form.specs.wasm_operators.declared.block_type.BlockType.{BlockType}
 use Rattle.wasm_body_grammar.specs.wasm_operators.Operators.{Seen, flow_of}
 use Rattle.wasm_body_grammar.specs.Frames.{Frame, Plain, Choice, turned}
 use Rattle.wasm_normal_form.specs.Roles.{role}

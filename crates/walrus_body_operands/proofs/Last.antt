@@ -1,11 +1,11 @@
 -- Lemmas: what frames ask comes last.
 use Rattle.std.specs.Prelude.{ℕ, ◌≡◌, ◌⊎◌, ◌||◌, true, false, List, [], ◌∷◌, Option, Some, None, refl}
 use Rattle.std.proofs.Common.{ap, sym, subst, ◌∙◌, inl, inr}
-use Rattle.wasm_immediates.specs.Items.{Tags, Labels, Item, Names}
+use Rattle.wasm_operators.specs.Items.{Tags, Labels, Item, Names}
 use Rattle.wasm_operators.specs.declared.entry.Flow.{Flow}
 use Rattle.wasm_operators.specs.declared.entry.Flow.TheVariants as flows
 use Rattle.wasm_operators.specs.Operators.{flow_of}
-use Rattle.walrus_pairing.specs.wasm_operator_bytes.Names.{operator_names}
+use Rattle.walrus_pairing.specs.wasm_operators.Names.{operator_names}
 use Rattle.wasm_formats.specs.Stops.{Trouble}
 use Rattle.walrus_body_steps.specs.wasm_grammar.Values.{first_of}
 use Rattle.walrus_body_steps.specs.wasm_body_grammar.Frames.{Frame, turned, label_count}

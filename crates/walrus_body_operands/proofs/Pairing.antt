@@ -6,8 +6,8 @@ use Rattle.wasm_ref_types.specs.declared.heap.HeapType.{HeapType}
 use Rattle.walrus_forms.specs.declared.value.HeapType.{HeapType as OwnHeap}
 use Rattle.std.proofs.Common.{ap, sym, subst, ◌∙◌, inl, inr}
 use Rattle.std.proofs.lemmas.Bool.{cases_Bool}
-use Rattle.wasm_immediates.specs.declared.memory_access.MemoryAccess.{MemoryAccess}
-use Rattle.wasm_immediates.specs.Items.{Space, Types, Functions, Tables, Memories, Tags, Globals, ElementSegments, DataSegments, Locals, Labels, Item, Names, Number, Byte, Heap, Access}
+use Rattle.wasm_operators.specs.declared.memory_access.MemoryAccess.{MemoryAccess}
+use Rattle.wasm_operators.specs.Items.{Space, Types, Functions, Tables, Memories, Tags, Globals, ElementSegments, DataSegments, Locals, Labels, Item, Names, Number, Byte, Heap, Access}
 use Rattle.wasm_operators.specs.declared.entry.Entry.{Entry}
 use Rattle.wasm_operators.specs.declared.entry.Flow.{Flow}
 use Rattle.wasm_operators.specs.declared.entry.Flow.TheVariants as flows

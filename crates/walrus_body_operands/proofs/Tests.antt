@@ -10,14 +10,14 @@ use Rattle.wasm_ref_types.specs.declared.index.UnpackedIndex.{UnpackedIndex}
 use Rattle.wasm_ref_types.specs.declared.index.UnpackedIndex.TheVariants.{Module, RecGroup, Id}
 use Rattle.wasm_ref_types.specs.declared.value.ValType.{ValType}
 use Rattle.wasm_ref_types.specs.declared.value.ValType.TheVariants.{I32, I64, F32, F64, V128, Ref}
-use Rattle.wasm_immediates.specs.declared.block_type.BlockType.{BlockType}
-use Rattle.wasm_immediates.specs.declared.block_type.BlockType.TheVariants as blocks
-use Rattle.wasm_immediates.specs.declared.clause.Clause.{Clause}
-use Rattle.wasm_immediates.specs.declared.clause.Clause.TheVariants as clauses
-use Rattle.wasm_immediates.specs.Items.{Space, Types, Labels, Names, Byte, Heap, Block, ManyLabels, ManyValues, ManyClauses}
+use Rattle.wasm_operators.specs.declared.block_type.BlockType.{BlockType}
+use Rattle.wasm_operators.specs.declared.block_type.BlockType.TheVariants as blocks
+use Rattle.wasm_operators.specs.declared.clause.Clause.{Clause}
+use Rattle.wasm_operators.specs.declared.clause.Clause.TheVariants as clauses
+use Rattle.wasm_operators.specs.Items.{Space, Types, Labels, Names, Byte, Heap, Block, ManyLabels, ManyValues, ManyClauses}
 use Rattle.wasm_operators.specs.declared.op_code.OpCode.{OpCode}
 use Rattle.wasm_operators.specs.Operators.{Seen}
-use Rattle.walrus_pairing.specs.wasm_operator_bytes.Names.{Name, index_names, heap_names, value_names, block_names, clause_names, label_name, operator_names}
+use Rattle.walrus_pairing.specs.wasm_operators.Names.{Name, index_names, heap_names, value_names, block_names, clause_names, label_name, operator_names}
 use Rattle.wasm_formats.specs.declared.fault.Space.TheVariants as spaces
 use Rattle.wasm_formats.specs.declared.fault.Form.TheVariants as unsupported
 use Rattle.wasm_formats.specs.Stops.{Trouble, Index, Position, Unsupported}

@@ -11,8 +11,8 @@ use Rattle.wasm_ref_types.specs.declared.heap.HeapType.TheVariants.{Abstract, Co
 use Rattle.wasm_ref_types.specs.declared.index.UnpackedIndex.TheVariants.{Module, RecGroup, Id}
 use Rattle.wasm_ref_types.specs.declared.value.ValType.{ValType}
 use Rattle.wasm_ref_types.specs.declared.value.ValType.TheVariants.{I32, I64, F32, F64, V128, Ref}
-use Rattle.wasm_immediates.specs.Items.{Types}
-use Rattle.walrus_pairing.specs.wasm_operator_bytes.Names.{heap_names}
+use Rattle.wasm_operators.specs.Items.{Types}
+use Rattle.walrus_pairing.specs.wasm_operators.Names.{heap_names}
 use Rattle.wasm_formats.specs.declared.fault.Form.TheVariants as unsupported
 use Rattle.wasm_formats.specs.Stops.{Trouble, Unsupported}
 use Rattle.walrus_body_steps.specs.wasm_grammar.TypeWords.{heap_of}

@@ -8,11 +8,11 @@ use Rattle.wasm_ref_types.specs.declared.index.UnpackedIndex.{UnpackedIndex}
 use Rattle.wasm_ref_types.specs.declared.index.UnpackedIndex.TheVariants.{Module, RecGroup, Id}
 use Rattle.wasm_ref_types.specs.declared.value.ValType.{ValType}
 use Rattle.wasm_ref_types.specs.declared.value.ValType.TheVariants.{Ref}
-use Rattle.wasm_immediates.specs.declared.block_type.BlockType.{BlockType}
-use Rattle.wasm_immediates.specs.declared.clause.Clause.{Clause}
-use Rattle.wasm_immediates.specs.Items.{Space, Heap, Block}
+use Rattle.wasm_operators.specs.declared.block_type.BlockType.{BlockType}
+use Rattle.wasm_operators.specs.declared.clause.Clause.{Clause}
+use Rattle.wasm_operators.specs.Items.{Space, Heap, Block}
 use Rattle.wasm_operators.specs.declared.op_code.OpCode.{OpCode}
-use Rattle.walrus_pairing.specs.wasm_operator_bytes.Names.{Name, heap_names, value_names, block_names, clause_names}
+use Rattle.walrus_pairing.specs.wasm_operators.Names.{Name, heap_names, value_names, block_names, clause_names}
 use Rattle.wasm_formats.specs.declared.fault.Space.{Space as Kind}
 use Rattle.wasm_formats.specs.declared.fault.Space.TheVariants as spaces
 use Rattle.wasm_formats.specs.declared.fault.Form.TheVariants as unsupported

@@ -1,6 +1,6 @@
 -- What an operator does to the open sequences of a body.
 use Rattle.std.specs.Prelude.{◌≡◌, ℕ, List, [], ◌∷◌, Some}
-use Rattle.wasm_immediates.specs.Items.{Tags, Labels, Names}
+use Rattle.wasm_operators.specs.Items.{Tags, Labels, Names}
 use Rattle.wasm_operators.specs.declared.entry.Flow.TheVariants as flows
 use Rattle.wasm_operators.specs.Operators.{Seen, flow_of}
 use Rattle.walrus_body_steps.specs.wasm_normal_form.Roles.{Passes, Runs, role, cuts}

@@ -1,7 +1,7 @@
 //! Operators that open blocks with handlers.
 
 ghost use Rattle.std.specs.Prelude.{◌≡◌, length, Some};
-ghost use Rattle.wasm_immediates.specs.Items.{Tags};
+ghost use Rattle.wasm_operators.specs.Items.{Tags};
 ghost use Rattle.walrus_body_steps.specs.walrus_body_nesting.Faults.{Answers};
 ghost use Rattle.walrus_body_steps.specs.walrus_body_rules.Sights.{look, written_block};
 ghost use Rattle.walrus_body_steps.specs.Meanings.{AreClauses, IsClause};
@@ -16,7 +16,7 @@ use walrus_arena::TagId;
 use walrus_body_steps::body_env::BodyError;
 use walrus_instr::{InstrSeqType, TryTableCatch};
 use wasm_formats::Space;
-use wasm_immediates::{BlockType, Clause};
+use wasm_operators::{BlockType, Clause};
 
 /// The tag that an index names.
 pub(crate) fn tag_id<S: Scope>(scope: &S, index: u32, offset: u64) -> Result<TagId, BodyError>

@@ -2,7 +2,7 @@
 
 ghost use Rattle.std.specs.Prelude.{◌≡◌, ◌^◌, ◌||◌, ◌∷◌, ℕ, List, [], length, nat_lt, true, false, Some};
 ghost use Rattle.std.specs.Option.{is_some};
-ghost use Rattle.wasm_immediates.specs.Items.{Byte, Heap, Labels as LabelSpace, ManyLabels, ManyValues, Memories, Names};
+ghost use Rattle.wasm_operators.specs.Items.{Byte, Heap, Labels as LabelSpace, ManyLabels, ManyValues, Memories, Names};
 ghost use Rattle.wasm_operators.specs.declared.op_code.OpCode.{OpCode as Code};
 ghost use Rattle.wasm_formats.specs.Stops.{Bounds, Position};
 ghost use Rattle.walrus_body_steps.specs.wasm_grammar.Values.{first_of, must};
@@ -30,8 +30,7 @@ use walrus_instr::Instr;
 use walrus_operators::{Immediates, Operator};
 use walrus_pairing::instr_of;
 use wasm_formats::Form;
-use wasm_immediates::MemoryAccess;
-use wasm_operators::OpCode;
+use wasm_operators::{MemoryAccess, OpCode};
 use wasm_ref_types::{HeapType, ValType};
 
 // Of an operator that names this label, which is that of this sequence.

@@ -26,8 +26,7 @@ use walrus_body_steps::body_stack::cuts;
 use walrus_instr::{Instr, InstrSeqType};
 use walrus_operators::{Immediates, Operator};
 use wasm_formats::Space;
-use wasm_immediates::BlockType;
-use wasm_operators::Flow;
+use wasm_operators::{BlockType, Flow};
 
 /// What an operator does to the open sequences of a body.
 #[derive(Drop)]

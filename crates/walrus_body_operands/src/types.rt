@@ -1,8 +1,8 @@
 //! The types that operators name.
 
 ghost use Rattle.std.specs.Prelude.{◌≡◌, Ok, Some};
-ghost use Rattle.wasm_immediates.specs.Items.{Types};
-ghost use Rattle.walrus_pairing.specs.wasm_operator_bytes.Names.{block_names, heap_names, index_names, value_names};
+ghost use Rattle.wasm_operators.specs.Items.{Types};
+ghost use Rattle.walrus_pairing.specs.wasm_operators.Names.{block_names, heap_names, index_names, value_names};
 ghost use Rattle.walrus_pairing.specs.Types as pairing;
 ghost use Rattle.walrus_body_steps.specs.walrus_body_rules.Sights.{function_block, look, written_block};
 ghost use Rattle.walrus_body_operands.specs.Asked.{IsTested, Meets, heap_test, index_test, is_filed, is_filed_value, named, of_module, tests_of, value_named, value_test, written_test};
@@ -15,7 +15,7 @@ use walrus_forms::{HeapType, ValType};
 use walrus_instr::InstrSeqType;
 use walrus_pairing::{read_heap, read_value};
 use wasm_formats::{Form, Space};
-use wasm_immediates::BlockType;
+use wasm_operators::BlockType;
 use wasm_ref_types as written;
 use wasm_ref_types::UnpackedIndex;
 

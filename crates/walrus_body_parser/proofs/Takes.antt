@@ -10,8 +10,8 @@ use Rattle.wasm_reader.specs.Numbers.{unsigned_at}
 use Rattle.wasm_reader.specs.Laws.{StaysWithin}
 use Rattle.wasm_reader.specs.Final.{map_final}
 use Rattle.wasm_reader.specs.Finals.{unsigned_final}
-use Rattle.walrus_body_operands.specs.walrus_body_rules.wasm_body_grammar.wasm_operators.wasm_immediates.Readings.{mapped, items_at}
-use Rattle.walrus_body_operands.specs.walrus_body_rules.wasm_body_grammar.wasm_operators.wasm_immediates.Finals.{items_final}
+use Rattle.walrus_body_operands.specs.walrus_body_rules.wasm_body_grammar.wasm_operators.Readings.{mapped, items_at}
+use Rattle.walrus_body_operands.specs.walrus_body_rules.wasm_body_grammar.wasm_operators.ItemFinals.{items_final}
 use Rattle.walrus_body_operands.specs.walrus_body_rules.wasm_body_grammar.wasm_operators.declared.entry.Kind.{Kind}
 use Rattle.walrus_body_operands.specs.walrus_body_rules.wasm_body_grammar.wasm_operators.declared.op_code.OpCode.{OpCode}
 use Rattle.walrus_body_operands.specs.walrus_body_rules.wasm_body_grammar.wasm_operators.Kinds.{forms}

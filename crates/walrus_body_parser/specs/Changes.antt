@@ -4,7 +4,7 @@ use Rattle.wasm_reader.specs.Cursor.{Cursor, rest, end_of}
 use Rattle.walrus_instr.specs.declared.seq.InstrLocId.{InstrLocId}
 use Rattle.walrus_instr.specs.declared.seq.InstrSeqType.{InstrSeqType}
 use Rattle.wasm_formats.specs.Stops.{Parsing}
-use Rattle.walrus_body_operands.specs.walrus_body_rules.wasm_body_grammar.wasm_operators.wasm_immediates.Items.{Tags, Names}
+use Rattle.walrus_body_operands.specs.walrus_body_rules.wasm_body_grammar.wasm_operators.Items.{Tags, Names}
 use Rattle.walrus_body_operands.specs.walrus_body_rules.wasm_body_grammar.wasm_operators.declared.entry.Flow.TheVariants as flows
 use Rattle.walrus_body_operands.specs.walrus_body_rules.wasm_body_grammar.wasm_operators.Operators.{Seen, flow_of}
 use Rattle.walrus_body_locals.specs.wasm_body_grammar.Frames.{turned}

@@ -2,10 +2,10 @@
 use Rattle.std.specs.Prelude.{◌≡◌, ℕ, ◌^◌, ◌&&◌, ◌||◌, nat_lt, Bool, not, List, [], ◌∷◌, Option, None, slice_index_or, refl}
 use Rattle.std.specs.List.{list_any}
 use Rattle.std.proofs.Common.{ap, ◌∙◌}
-use Rattle.wasm_body_grammar.specs.wasm_operator_bytes.wasm_immediates.declared.block_type.BlockType.TheVariants as blocks
-use Rattle.wasm_body_grammar.specs.wasm_operator_bytes.wasm_immediates.Items.{Space, Memories, Item, Names, Number, S32, S64, Bits, Byte, Bytes, Heap, Block, Access, ManyLabels, ManyValues, ManyClauses}
+use Rattle.wasm_body_grammar.specs.wasm_operators.declared.block_type.BlockType.TheVariants as blocks
+use Rattle.wasm_body_grammar.specs.wasm_operators.Items.{Space, Memories, Item, Names, Number, S32, S64, Bits, Byte, Bytes, Heap, Block, Access, ManyLabels, ManyValues, ManyClauses}
 use Rattle.wasm_body_grammar.specs.wasm_operators.Operators.{Seen, flow_of}
-use Rattle.wasm_body_grammar.specs.wasm_operator_bytes.Names.{Name, operator_names}
+use Rattle.wasm_body_grammar.specs.wasm_operators.Names.{Name, operator_names}
 use Rattle.wasm_body_grammar.specs.wasm_formats.Stops.{Trouble, Index, Position, Bounds}
 use Rattle.wasm_body_grammar.specs.wasm_grammar.Values.{must, first_of}
 use Rattle.wasm_body_grammar.specs.Frames.{Frame, turned, label_count}

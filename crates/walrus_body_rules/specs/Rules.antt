@@ -2,11 +2,11 @@
 use Rattle.std.specs.Prelude.{ℕ, ◌^◌, ◌&&◌, ◌||◌, nat_lt, Bool, false, not, List, [], ◌∷◌, Option, Some, None}
 use Rattle.std.specs.List.{list_any}
 use Rattle.std.specs.Option.{is_some}
-use Rattle.wasm_body_grammar.specs.wasm_operator_bytes.wasm_immediates.declared.block_type.BlockType.{BlockType}
-use Rattle.wasm_body_grammar.specs.wasm_operator_bytes.wasm_immediates.declared.block_type.BlockType.TheVariants as blocks
-use Rattle.wasm_body_grammar.specs.wasm_operator_bytes.wasm_immediates.Items.{Types, Memories, Item, Block, Access}
+use Rattle.wasm_body_grammar.specs.wasm_operators.declared.block_type.BlockType.{BlockType}
+use Rattle.wasm_body_grammar.specs.wasm_operators.declared.block_type.BlockType.TheVariants as blocks
+use Rattle.wasm_body_grammar.specs.wasm_operators.Items.{Types, Memories, Item, Block, Access}
 use Rattle.wasm_body_grammar.specs.wasm_operators.Operators.{Seen, flow_of}
-use Rattle.wasm_body_grammar.specs.wasm_operator_bytes.Names.{Name, operator_names}
+use Rattle.wasm_body_grammar.specs.wasm_operators.Names.{Name, operator_names}
 use Rattle.wasm_body_grammar.specs.wasm_formats.Stops.{Trouble, TypeForm, Position, Bounds}
 use Rattle.wasm_body_grammar.specs.wasm_grammar.Values.{must}
 use Rattle.wasm_body_grammar.specs.Frames.{Frame, turned, label_count}

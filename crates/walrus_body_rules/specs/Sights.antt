@@ -7,9 +7,9 @@ use Rattle.walrus_pairing.specs.walrus_index_maps.Maps.{Ids}
 use Rattle.walrus_pairing.specs.declared.error.PairError.{PairError}
 use Rattle.walrus_pairing.specs.Looks.{Look, id_of}
 use Rattle.walrus_pairing.specs.Types.{read_value}
-use Rattle.wasm_body_grammar.specs.wasm_operator_bytes.wasm_immediates.declared.block_type.BlockType.{BlockType}
-use Rattle.wasm_body_grammar.specs.wasm_operator_bytes.wasm_immediates.declared.block_type.BlockType.TheVariants as blocks
-use Rattle.wasm_body_grammar.specs.wasm_operator_bytes.wasm_immediates.Items.{Space, Types, Functions, Tables, Memories, Tags, Globals, ElementSegments, DataSegments, Locals, Labels}
+use Rattle.wasm_body_grammar.specs.wasm_operators.declared.block_type.BlockType.{BlockType}
+use Rattle.wasm_body_grammar.specs.wasm_operators.declared.block_type.BlockType.TheVariants as blocks
+use Rattle.wasm_body_grammar.specs.wasm_operators.Items.{Space, Types, Functions, Tables, Memories, Tags, Globals, ElementSegments, DataSegments, Locals, Labels}
 
 pub record Sight : Type 0 where
   -- what indices name, and the function that the body is of

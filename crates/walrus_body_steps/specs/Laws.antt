@@ -4,7 +4,7 @@ use Rattle.walrus_body_stack.specs.walrus_instr.declared.instr.Instr.{Instr}
 use Rattle.walrus_body_stack.specs.walrus_instr.declared.seq.InstrLocId.{InstrLocId}
 use Rattle.walrus_body_stack.specs.walrus_instr.declared.seq.InstrSeqType.{InstrSeqType}
 use Rattle.walrus_body_stack.specs.walrus_builder.Built.{no_place}
-use Rattle.walrus_body_rules.specs.walrus_pairing.wasm_immediates.Items.{Labels, Names}
+use Rattle.walrus_body_rules.specs.walrus_pairing.wasm_operators.Items.{Labels, Names}
 use Rattle.walrus_body_rules.specs.wasm_body_grammar.wasm_operators.declared.entry.Flow.TheVariants as flows
 use Rattle.walrus_body_rules.specs.wasm_body_grammar.wasm_operators.Operators.{Seen, flow_of}
 use Rattle.walrus_body_rules.specs.wasm_body_grammar.Frames.{Plain, Catching, Caught}

@@ -10,10 +10,10 @@ use Rattle.walrus_body_stack.specs.walrus_instr.declared.instr.TryTableCatch.The
 use Rattle.walrus_body_stack.specs.walrus_instr.declared.seq.InstrSeqType.{InstrSeqType}
 use Rattle.walrus_body_rules.specs.walrus_pairing.Types.{read_heap}
 use Rattle.walrus_body_rules.specs.walrus_pairing.Read.{at, of_bytes, of_objects, instr_at}
-use Rattle.walrus_body_rules.specs.walrus_pairing.wasm_immediates.declared.block_type.BlockType.{BlockType}
-use Rattle.walrus_body_rules.specs.walrus_pairing.wasm_immediates.declared.clause.Clause.{Clause}
-use Rattle.walrus_body_rules.specs.walrus_pairing.wasm_immediates.declared.clause.Clause.TheVariants as handlers
-use Rattle.walrus_body_rules.specs.walrus_pairing.wasm_immediates.Items.{Types, Tags, Labels, Item, Names, Byte, Heap, Block, ManyLabels, ManyClauses}
+use Rattle.walrus_body_rules.specs.walrus_pairing.wasm_operators.declared.block_type.BlockType.{BlockType}
+use Rattle.walrus_body_rules.specs.walrus_pairing.wasm_operators.declared.clause.Clause.{Clause}
+use Rattle.walrus_body_rules.specs.walrus_pairing.wasm_operators.declared.clause.Clause.TheVariants as handlers
+use Rattle.walrus_body_rules.specs.walrus_pairing.wasm_operators.Items.{Types, Tags, Labels, Item, Names, Byte, Heap, Block, ManyLabels, ManyClauses}
 use Rattle.walrus_body_rules.specs.wasm_body_grammar.wasm_operators.declared.entry.Flow.TheVariants as flows
 use Rattle.walrus_body_rules.specs.wasm_body_grammar.wasm_operators.declared.op_code.OpCode.{OpCode}
 use Rattle.walrus_body_rules.specs.wasm_body_grammar.wasm_operators.Operators.{Seen, op_code, flow_of}

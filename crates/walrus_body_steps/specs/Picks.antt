@@ -4,7 +4,7 @@ use Rattle.walrus_body_stack.specs.walrus_instr.declared.instr.Instr.{Instr}
 use Rattle.walrus_body_stack.specs.walrus_instr.declared.seq.InstrLocId.{InstrLocId}
 use Rattle.walrus_body_stack.specs.walrus_instr.declared.seq.InstrSeqType.{InstrSeqType}
 use Rattle.walrus_body_stack.specs.walrus_builder.Built.{Seq}
-use Rattle.walrus_body_rules.specs.walrus_pairing.wasm_immediates.declared.block_type.BlockType.{BlockType}
+use Rattle.walrus_body_rules.specs.walrus_pairing.wasm_operators.declared.block_type.BlockType.{BlockType}
 use Rattle.walrus_body_rules.specs.wasm_body_grammar.wasm_operators.Operators.{Seen}
 use Rattle.walrus_body_stack.specs.wasm_normal_form.Roles.{cuts, is_if}
 use Rattle.walrus_body_stack.specs.wasm_normal_form.Trees.{Tree, Close, Arm, Skip, Run, Nest}

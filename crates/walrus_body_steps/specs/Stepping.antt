@@ -4,7 +4,7 @@ use Rattle.std.specs.Prelude.{Ok}
 use Rattle.walrus_body_stack.specs.walrus_instr.declared.seq.InstrLocId.{InstrLocId}
 use Rattle.walrus_body_stack.specs.walrus_instr.declared.seq.InstrSeqType.{InstrSeqType}
 use Rattle.walrus_body_stack.specs.walrus_builder.Built.{Seq, empty_seq, no_place}
-use Rattle.walrus_body_rules.specs.walrus_pairing.wasm_immediates.Items.{Item, Names, Number, S32, S64, Bits, Byte, Bytes, Heap, Block, Access, ManyLabels, ManyValues, ManyClauses}
+use Rattle.walrus_body_rules.specs.walrus_pairing.wasm_operators.Items.{Item, Names, Number, S32, S64, Bits, Byte, Bytes, Heap, Block, Access, ManyLabels, ManyValues, ManyClauses}
 use Rattle.walrus_body_rules.specs.wasm_body_grammar.wasm_operators.declared.entry.Flow.{Flow}
 use Rattle.walrus_body_rules.specs.wasm_body_grammar.wasm_operators.declared.entry.Flow.TheVariants as flows
 use Rattle.walrus_body_rules.specs.wasm_body_grammar.wasm_operators.Operators.{Seen, flow_of}

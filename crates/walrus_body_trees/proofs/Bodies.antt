@@ -7,9 +7,9 @@ use Rattle.walrus_meaning.specs.walrus_local_function.walrus_body_locals.walrus_
 use Rattle.walrus_meaning.specs.walrus_local_function.walrus_body_locals.walrus_body_nesting.wasm_formats.Lists.{SpellsEntries}
 use Rattle.walrus_meaning.specs.walrus_local_function.walrus_body_parser.wasm_operators.Operators.{Seen}
 use Rattle.walrus_meaning.specs.walrus_local_function.walrus_body_parser.wasm_operators.Spellings.{SpellsEither, SpellsOperator}
-use Rattle.walrus_meaning.specs.walrus_local_function.walrus_body_locals.wasm_body_grammar.wasm_operator_bytes.Bytes.{operator_bytes}
-use Rattle.wasm_operator_bytes.specs.Ranges.{OperatorFits}
-use Rattle.wasm_operator_bytes.specs.RangeLaws.{SpelledIfFits}
+use Rattle.walrus_meaning.specs.walrus_local_function.walrus_body_locals.wasm_body_grammar.wasm_operators.Bytes.{operator_bytes}
+use Rattle.wasm_operators.specs.Ranges.{OperatorFits}
+use Rattle.wasm_operators.specs.RangeLaws.{SpelledIfFits}
 use Rattle.walrus_meaning.specs.walrus_local_function.walrus_body_locals.wasm_body_grammar.Rules.{Around}
 use Rattle.walrus_meaning.specs.walrus_local_function.walrus_body_locals.wasm_body_grammar.Bodies.{Parts, Point, is_closed, next_point, next_total, operator, operator_in, opened}
 use Rattle.walrus_meaning.specs.walrus_local_function.walrus_body_locals.wasm_normal_form.Trees.{Tree, flat, open_in, tree_of}
@@ -18,7 +18,7 @@ use Rattle.walrus_meaning.specs.walrus_module.walrus_builder.Functions.{seqs_of}
 use Rattle.walrus_tree.specs.Text.{operators}
 use Rattle.walrus_tree.specs.TextLaws.{TreesAreNested, TextIsPlain}
 use Rattle.walrus_meaning.specs.Bodies.{own_piece}
-use Rattle.walrus_meaning.specs.walrus_body_writer.walrus_pairing.wasm_immediates.declared.block_type.BlockType.{BlockType}
+use Rattle.walrus_meaning.specs.walrus_body_writer.walrus_pairing.wasm_operators.declared.block_type.BlockType.{BlockType}
 use Rattle.walrus_pairing.specs.Laws.{OperatorComesBack}
 use Rattle.walrus_meaning.specs.walrus_local_function.walrus_body_locals.walrus_body_nesting.Opens.{same}
 use Rattle.walrus_body_trees.specs.Laws.{BodiesAreTrees, BodiesMeanTheirs, BodiesHoldTheirs, IsBody, meant, ops_of, renamed}

@@ -6,13 +6,13 @@ use Rattle.wasm_features.specs.declared.WasmFeatures.{WasmFeatures}
 use Rattle.walrus_meaning.specs.walrus_local_function.walrus_body_locals.walrus_body_nesting.wasm_formats.Stops.{Trouble}
 use Rattle.walrus_meaning.specs.walrus_local_function.walrus_body_locals.walrus_body_nesting.wasm_formats.Bytes.{either_type}
 use Rattle.walrus_meaning.specs.walrus_local_function.walrus_body_locals.walrus_body_nesting.wasm_formats.Lists.{SpellsEntries, EntryRules}
-use Rattle.walrus_meaning.specs.walrus_body_writer.walrus_pairing.wasm_immediates.declared.block_type.BlockType.{BlockType}
-use Rattle.walrus_meaning.specs.walrus_body_writer.walrus_pairing.wasm_immediates.Items.{Labels, Names, Space}
+use Rattle.walrus_meaning.specs.walrus_body_writer.walrus_pairing.wasm_operators.declared.block_type.BlockType.{BlockType}
+use Rattle.walrus_meaning.specs.walrus_body_writer.walrus_pairing.wasm_operators.Items.{Labels, Names, Space}
 use Rattle.walrus_meaning.specs.walrus_local_function.walrus_body_parser.wasm_operators.declared.entry.Flow.{Flow}
 use Rattle.walrus_meaning.specs.walrus_local_function.walrus_body_parser.wasm_operators.declared.entry.Flow.TheVariants as flows
 use Rattle.walrus_meaning.specs.walrus_local_function.walrus_body_parser.wasm_operators.Operators.{Seen, flow_of}
-use Rattle.walrus_meaning.specs.walrus_local_function.walrus_body_locals.wasm_body_grammar.wasm_operator_bytes.Names.{operator_names}
-use Rattle.wasm_operator_bytes.specs.Ranges.{OperatorFits}
+use Rattle.walrus_meaning.specs.walrus_local_function.walrus_body_locals.wasm_body_grammar.wasm_operators.Names.{operator_names}
+use Rattle.wasm_operators.specs.Ranges.{OperatorFits}
 use Rattle.walrus_meaning.specs.walrus_local_function.walrus_body_locals.wasm_grammar.Values.{first_of}
 use Rattle.walrus_meaning.specs.walrus_local_function.walrus_body_locals.wasm_grammar.Modules as grammar
 use Rattle.walrus_meaning.specs.walrus_local_function.walrus_body_locals.wasm_body_grammar.Frames.{Frame, Plain, Choice, Trying, Catching, Caught, Turned, turned, label_count}

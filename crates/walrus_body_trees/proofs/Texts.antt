@@ -3,16 +3,16 @@ use Rattle.std.proofs.Common.{ℕ, suc, ◌<◌, ◌≡◌, Bool, true, false, L
 use Rattle.std.specs.Prelude.{slice_get}
 use Rattle.std.proofs.lemmas.List.{append_assoc, map-append}
 use Rattle.wasm_features.specs.declared.WasmFeatures.{WasmFeatures}
-use Rattle.walrus_meaning.specs.walrus_body_writer.walrus_pairing.wasm_immediates.declared.block_type.BlockType.{BlockType}
-use Rattle.walrus_meaning.specs.walrus_body_writer.walrus_pairing.wasm_immediates.Items.{Labels, Tags, Item, Names}
+use Rattle.walrus_meaning.specs.walrus_body_writer.walrus_pairing.wasm_operators.declared.block_type.BlockType.{BlockType}
+use Rattle.walrus_meaning.specs.walrus_body_writer.walrus_pairing.wasm_operators.Items.{Labels, Tags, Item, Names}
 use Rattle.walrus_meaning.specs.walrus_local_function.walrus_body_parser.wasm_operators.declared.op_code.OpCode.{OpCode}
 use Rattle.walrus_meaning.specs.walrus_local_function.walrus_body_parser.wasm_operators.declared.entry.Flow.TheVariants as flows
 use Rattle.walrus_meaning.specs.walrus_local_function.walrus_body_parser.wasm_operators.Operators.{Seen}
 use Rattle.walrus_meaning.specs.walrus_local_function.walrus_body_parser.wasm_operators.Table.{structure_rows}
 use Rattle.walrus_meaning.specs.walrus_local_function.walrus_body_parser.wasm_operators.declared.entry.Kind.TheVariants as kinds
 use Rattle.walrus_meaning.specs.walrus_local_function.walrus_body_parser.wasm_operators.Operators.{kind_of}
-use Rattle.walrus_meaning.specs.walrus_local_function.walrus_body_locals.wasm_body_grammar.wasm_operator_bytes.Names.{Renaming, renamed_item, renamed_operator}
-use Rattle.wasm_operator_bytes.specs.Ranges.{OperatorFits}
+use Rattle.walrus_meaning.specs.walrus_local_function.walrus_body_locals.wasm_body_grammar.wasm_operators.Names.{Renaming, renamed_item, renamed_operator}
+use Rattle.wasm_operators.specs.Ranges.{OperatorFits}
 use Rattle.walrus_meaning.specs.walrus_local_function.walrus_body_locals.wasm_normal_form.Roles.{Placed, placed, cuts, is_if, else_op, end_op, Role, Passes, Runs, Opens, Turns, Ends, role}
 use Rattle.walrus_meaning.specs.walrus_local_function.walrus_body_locals.wasm_normal_form.Trees.{Tree, Close, Arm, Skip, Run, Nest, flat, prepend, open_in, innermost}
 use Rattle.walrus_meaning.specs.walrus_local_function.walrus_body_locals.wasm_normal_form.Normal.{picked, normal_from}

@@ -6,7 +6,7 @@ pub fn bodies_are_trees()
     ensures { BodiesAreTrees }
 {
     walrus_pairing::laws::operators_come_back();
-    wasm_operator_bytes::laws::operators_in_range_are_spelled();
+    wasm_operators::laws::operators_in_range_are_spelled();
 }
 
 /// Such a body means that normal form: each operator of its text is the normal form's, with each index renamed to the id that it names, at
@@ -15,7 +15,7 @@ pub fn bodies_mean_their_normal_form()
     ensures { BodiesMeanTheirs }
 {
     walrus_pairing::laws::operators_come_back();
-    wasm_operator_bytes::laws::operators_in_range_are_spelled();
+    wasm_operators::laws::operators_in_range_are_spelled();
     walrus_tree::laws::trees_are_nested();
     walrus_tree::laws::text_is_plain();
 }
@@ -25,7 +25,7 @@ pub fn bodies_hold_their_operators()
     ensures { BodiesHoldTheirs }
 {
     walrus_pairing::laws::operators_come_back();
-    wasm_operator_bytes::laws::operators_in_range_are_spelled();
+    wasm_operators::laws::operators_in_range_are_spelled();
     walrus_tree::laws::trees_are_nested();
     walrus_tree::laws::text_is_plain();
 }

@@ -1,7 +1,7 @@
 -- Lemmas: the answers of a sight are good if each that it gives is; and bodies that were read name its answers.
 use Rattle.std.proofs.Common.{◌≡◌, List, Option, Some, None, map}
 use Rattle.std.specs.Prelude.{IfSome}
-use Rattle.wasm_operator_bytes.specs.NameLaws.{NamesAreRenamed}
+use Rattle.wasm_operators.specs.NameLaws.{NamesAreRenamed}
 use Rattle.walrus_handler_laws.specs.walrus_body_steps.wasm_normal_form.Trees.{tree_of}
 use Rattle.walrus_handler_laws.specs.walrus_body_steps.wasm_normal_form.Normal.{normal}
 use Rattle.walrus_walks.specs.walrus_forms.declared.value.ValType.{ValType}

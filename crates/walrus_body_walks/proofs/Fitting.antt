@@ -2,16 +2,16 @@
 use Rattle.std.proofs.Common.{ℕ, ◌<◌, Bool, true, false, List, [], ◌∷◌, ◌++◌, All, Option, Some, subst, map}
 use Rattle.std.specs.Prelude.{fold}
 use Rattle.std.proofs.lemmas.List.Elements.{All-nil, All-cons, All-head, All-tail}
-use Rattle.wasm_operator_bytes.specs.wasm_operators.wasm_features.declared.WasmFeatures.{WasmFeatures}
+use Rattle.wasm_operators.specs.wasm_features.declared.WasmFeatures.{WasmFeatures}
 use Rattle.walrus_handler_laws.specs.walrus_body_steps.wasm_body_grammar.wasm_formats.Bytes.{either_type}
 use Rattle.walrus_handler_laws.specs.walrus_body_steps.wasm_body_grammar.wasm_formats.Lists.{SpellsEntries}
 use Rattle.walrus_handler_laws.specs.walrus_body_steps.wasm_grammar.Modules as grammar
-use Rattle.walrus_pairing.specs.wasm_immediates.declared.block_type.BlockType.{BlockType}
-use Rattle.wasm_operator_bytes.specs.wasm_operators.Operators.{Seen}
-use Rattle.wasm_operator_bytes.specs.wasm_operators.Spellings.{SpellsEither, SpellsOperator}
-use Rattle.wasm_operator_bytes.specs.Bytes.{operator_bytes}
-use Rattle.wasm_operator_bytes.specs.Ranges.{OperatorFits}
-use Rattle.wasm_operator_bytes.specs.RangeLaws.{SpelledIfFits}
+use Rattle.walrus_pairing.specs.wasm_operators.declared.block_type.BlockType.{BlockType}
+use Rattle.wasm_operators.specs.Operators.{Seen}
+use Rattle.wasm_operators.specs.Spellings.{SpellsEither, SpellsOperator}
+use Rattle.wasm_operators.specs.Bytes.{operator_bytes}
+use Rattle.wasm_operators.specs.Ranges.{OperatorFits}
+use Rattle.wasm_operators.specs.RangeLaws.{SpelledIfFits}
 use Rattle.walrus_handler_laws.specs.walrus_body_steps.wasm_body_grammar.Rules.{Around}
 use Rattle.walrus_handler_laws.specs.walrus_body_steps.wasm_body_grammar.Bodies.{Parts, Point, is_closed, next_point, next_total, operator, operator_in, opened, placed as placed_from}
 use Rattle.walrus_handler_laws.specs.walrus_body_steps.wasm_normal_form.Roles.{placed, Role, Passes, Runs, Opens, Turns, Ends, role, cuts, is_if}

@@ -5,16 +5,16 @@ use Rattle.std.specs.List.{AllByRecursion}
 use Rattle.std.specs.Option.{unwrap_or}
 use Rattle.std.proofs.lemmas.List.Elements.{All-from_recursion, recursion_from_All}
 use Rattle.std.proofs.lemmas.List.Sorted.{All-permutation, IsPermutation-reverse}
-use Rattle.wasm_operator_bytes.specs.wasm_operators.wasm_features.declared.WasmFeatures.{WasmFeatures}
+use Rattle.wasm_operators.specs.wasm_features.declared.WasmFeatures.{WasmFeatures}
 use Rattle.walrus_handler_laws.specs.walrus_body_steps.wasm_body_grammar.wasm_formats.declared.fault.Space.TheVariants as spaces
-use Rattle.walrus_pairing.specs.wasm_immediates.declared.clause.Clause.{Clause}
-use Rattle.walrus_pairing.specs.wasm_immediates.declared.clause.Clause.TheVariants as handlers
-use Rattle.walrus_pairing.specs.wasm_immediates.Items.{Labels, Tags, Item as Word, Names, Byte, Heap, ManyLabels}
-use Rattle.wasm_operator_bytes.specs.wasm_operators.declared.op_code.OpCode.{OpCode}
-use Rattle.wasm_operator_bytes.specs.wasm_operators.Operators.{Seen}
-use Rattle.wasm_operator_bytes.specs.Names.{Name, Renaming, operator_names, renamed_operator}
-use Rattle.wasm_operator_bytes.specs.NameLaws.{NamesAreRenamed, renamed_name}
-use Rattle.wasm_operator_bytes.specs.Ranges.{OperatorFits}
+use Rattle.walrus_pairing.specs.wasm_operators.declared.clause.Clause.{Clause}
+use Rattle.walrus_pairing.specs.wasm_operators.declared.clause.Clause.TheVariants as handlers
+use Rattle.walrus_pairing.specs.wasm_operators.Items.{Labels, Tags, Item as Word, Names, Byte, Heap, ManyLabels}
+use Rattle.wasm_operators.specs.declared.op_code.OpCode.{OpCode}
+use Rattle.wasm_operators.specs.Operators.{Seen}
+use Rattle.wasm_operators.specs.Names.{Name, Renaming, operator_names, renamed_operator}
+use Rattle.wasm_operators.specs.NameLaws.{NamesAreRenamed, renamed_name}
+use Rattle.wasm_operators.specs.Ranges.{OperatorFits}
 use Rattle.walrus_handler_laws.specs.walrus_body_steps.wasm_body_grammar.Rules.{space_of}
 use Rattle.walrus_walks.specs.walrus_forms.declared.value.HeapType.{HeapType}
 use Rattle.walrus_marks.specs.walrus_instr.declared.instr.Instr.{Instr}

@@ -2,15 +2,15 @@
 use Rattle.std.proofs.Common.{ℕ, ◌≡◌, Bool, true, false, List, [], ◌++◌, Option, Some, None, Ok, Err, refl, subst}
 use Rattle.std.specs.Option.{ok_or}
 use Rattle.walrus_handler_laws.specs.walrus_body_steps.wasm_body_grammar.wasm_formats.declared.fault.Space.TheVariants as spaces
-use Rattle.wasm_operator_bytes.specs.wasm_ref_types.declared.heap.HeapType.{HeapType as WrittenHeap}
-use Rattle.wasm_operator_bytes.specs.wasm_ref_types.declared.heap.HeapType.TheVariants.{Abstract as WAbstract, Concrete as WConcrete, Exact as WExact}
-use Rattle.wasm_operator_bytes.specs.wasm_ref_types.declared.index.UnpackedIndex.{UnpackedIndex}
-use Rattle.wasm_operator_bytes.specs.wasm_ref_types.declared.index.UnpackedIndex.TheVariants.{Module, RecGroup, Id}
-use Rattle.wasm_operator_bytes.specs.wasm_ref_types.declared.value.ValType.{ValType as WrittenValue}
-use Rattle.wasm_operator_bytes.specs.wasm_ref_types.declared.value.ValType.TheVariants.{I32 as WI32, I64 as WI64, F32 as WF32, F64 as WF64, V128 as WV128, Ref as WRef}
-use Rattle.walrus_pairing.specs.wasm_immediates.declared.block_type.BlockType.{BlockType}
-use Rattle.walrus_pairing.specs.wasm_immediates.declared.block_type.BlockType.TheVariants as blocks
-use Rattle.walrus_pairing.specs.wasm_immediates.Items.{Types}
+use Rattle.wasm_operators.specs.wasm_ref_types.declared.heap.HeapType.{HeapType as WrittenHeap}
+use Rattle.wasm_operators.specs.wasm_ref_types.declared.heap.HeapType.TheVariants.{Abstract as WAbstract, Concrete as WConcrete, Exact as WExact}
+use Rattle.wasm_operators.specs.wasm_ref_types.declared.index.UnpackedIndex.{UnpackedIndex}
+use Rattle.wasm_operators.specs.wasm_ref_types.declared.index.UnpackedIndex.TheVariants.{Module, RecGroup, Id}
+use Rattle.wasm_operators.specs.wasm_ref_types.declared.value.ValType.{ValType as WrittenValue}
+use Rattle.wasm_operators.specs.wasm_ref_types.declared.value.ValType.TheVariants.{I32 as WI32, I64 as WI64, F32 as WF32, F64 as WF64, V128 as WV128, Ref as WRef}
+use Rattle.walrus_pairing.specs.wasm_operators.declared.block_type.BlockType.{BlockType}
+use Rattle.walrus_pairing.specs.wasm_operators.declared.block_type.BlockType.TheVariants as blocks
+use Rattle.walrus_pairing.specs.wasm_operators.Items.{Types}
 use Rattle.walrus_walks.specs.walrus_forms.declared.value.AbstractHeapType.{AbstractHeapType}
 use Rattle.walrus_walks.specs.walrus_forms.declared.value.HeapType.{HeapType}
 use Rattle.walrus_walks.specs.walrus_forms.declared.value.HeapType.TheVariants.{Abstract, Concrete, Exact}

@@ -1,6 +1,6 @@
 -- What a sight answers with: the items that a body can name which is read by it.
 use Rattle.std.specs.Prelude.{◌≡◌, ℕ, List, Contains, Some, None}
-use Rattle.walrus_pairing.specs.wasm_immediates.Items.{Space}
+use Rattle.walrus_pairing.specs.wasm_operators.Items.{Space}
 use Rattle.walrus_handler_laws.specs.walrus_body_steps.wasm_body_grammar.Rules.{space_of}
 use Rattle.walrus_walks.specs.walrus_forms.declared.value.ValType.{ValType}
 use Rattle.walrus_marks.specs.walrus_instr.declared.seq.InstrSeqType.{InstrSeqType}

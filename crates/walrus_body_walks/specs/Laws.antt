@@ -1,7 +1,7 @@
 -- What bodies that were read name.
 use Rattle.std.specs.Prelude.{◌≡◌, ℕ, List, map, Option, Some, None, IfSome, slice_get}
 use Rattle.std.specs.List.{AllByRecursion}
-use Rattle.walrus_pairing.specs.wasm_immediates.declared.block_type.BlockType.{BlockType}
+use Rattle.walrus_pairing.specs.wasm_operators.declared.block_type.BlockType.{BlockType}
 use Rattle.walrus_handler_laws.specs.walrus_body_steps.wasm_body_grammar.Rules.{Around}
 use Rattle.walrus_handler_laws.specs.walrus_body_steps.wasm_body_grammar.Bodies.{Parts}
 use Rattle.walrus_handler_laws.specs.walrus_body_steps.wasm_normal_form.Trees.{tree_of}

@@ -8,8 +8,8 @@ pub fn walks_name_answers()
 {
     walrus_pairing::laws::operators_come_back();
     walrus_body_trees::meaning::names_are_told();
-    wasm_operator_bytes::laws::names_are_renamed();
-    wasm_operator_bytes::laws::operators_in_range_are_spelled();
+    wasm_operators::laws::names_are_renamed();
+    wasm_operators::laws::operators_in_range_are_spelled();
 }
 
 /// In the tree of such a body, what the block types of legacy `try`s name are such items, whatever types handlers have.
@@ -18,8 +18,8 @@ pub fn tries_have_answers()
 {
     walrus_pairing::laws::operators_come_back();
     walrus_body_trees::meaning::names_are_told();
-    wasm_operator_bytes::laws::names_are_renamed();
-    wasm_operator_bytes::laws::operators_in_range_are_spelled();
+    wasm_operators::laws::names_are_renamed();
+    wasm_operators::laws::operators_in_range_are_spelled();
 }
 
 /// So it is of the block of each handler that the tree tells.

@@ -8,11 +8,11 @@ use Rattle.walrus_body_text.specs.walrus_tree.walrus_walks.walrus_instr.declared
 use Rattle.walrus_body_text.specs.walrus_tree.walrus_walks.walrus_instr.declared.instr.TryTableCatch.{TryTableCatch}
 use Rattle.walrus_body_text.specs.walrus_tree.walrus_walks.walrus_instr.declared.instr.TryTableCatch.TheVariants as parts
 use Rattle.walrus_body_text.specs.walrus_tree.walrus_walks.walrus_instr.declared.seq.InstrSeq.{InstrSeq}
-use Rattle.wasm_immediates.specs.declared.clause.Clause.{Clause}
+use Rattle.wasm_operators.specs.declared.clause.Clause.{Clause}
 use Rattle.walrus_pairing.specs.walrus_codes.Runs.{byte}
 use Rattle.walrus_pairing.specs.Looks.{Look, Or, ◌>>=◌}
 use Rattle.walrus_pairing.specs.Write.{op}
-use Rattle.wasm_immediates.specs.Items.{Labels, Names, Block, ManyLabels, ManyClauses}
+use Rattle.wasm_operators.specs.Items.{Labels, Names, Block, ManyLabels, ManyClauses}
 use Rattle.walrus_body_text.specs.walrus_tree.Trees.{Has, HasAll, clause_label, IsWithin}
 use Rattle.walrus_body_writer.specs.Spelled.{label, block, branch, clause, clauses, cast, type_in, written_instr}
 use Rattle.walrus_body_text.specs.Doing.{AreDeep, label_by}

@@ -15,7 +15,7 @@ use Rattle.walrus_pairing.specs.Looks.{Look, Or}
 use Rattle.walrus_body_writer.specs.declared.output.Output.{Output}
 use Rattle.walrus_body_text.specs.walrus_tree.Trees.{IsTree}
 use Rattle.walrus_body_text.specs.walrus_tree.Text.{Catch, operators}
-use Rattle.wasm_immediates.specs.Items.{Tags, Types}
+use Rattle.wasm_operators.specs.Items.{Tags, Types}
 use Rattle.walrus_body_text.specs.walrus_tree.walrus_walks.walrus_instr.declared.seq.InstrLocId.{InstrLocId}
 use Rattle.walrus_pairing.specs.Write.{either, plain_at, operator_at}
 use Rattle.walrus_body_text.specs.declared.todo.Closer.{Closer}

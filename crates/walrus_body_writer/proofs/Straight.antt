@@ -5,20 +5,20 @@ use Rattle.std.specs.Prelude.{Bool, Result, true, slice_get}
 use Rattle.std.specs.declared.alloc.AllocError.{AllocError}
 use Rattle.std.specs.declared.alloc.Global.{Global}
 use Rattle.std.specs.declared.vec.Vec.{Vec}
-use Rattle.wasm_immediates.specs.Items.{Access, Block, Item, Locals, Functions, Globals, Memories, Names, Space}
+use Rattle.wasm_operators.specs.Items.{Access, Block, Item, Locals, Functions, Globals, Memories, Names, Space}
 use Rattle.wasm_operators.specs.declared.op_code.OpCode.{OpCode}
 use Rattle.wasm_operators.specs.Operators.{Seen}
-use Rattle.walrus_operator_writer.specs.Appended.{Appends, Keeps}
-use Rattle.walrus_operator_writer.specs.wasm_operator_bytes.Bytes.{code_bytes, item_bytes, operator_bytes}
-use Rattle.walrus_operator_writer.proofs.Appends.{appends_on}
-use Rattle.walrus_operator_writer.proofs.Keeps.{keeps_all, keeps_front}
+use Rattle.walrus_operators.specs.Appended.{Appends, Keeps}
+use Rattle.walrus_operators.specs.wasm_operators.Bytes.{code_bytes, item_bytes, operator_bytes}
+use Rattle.walrus_operators.proofs.Appends.{appends_on}
+use Rattle.walrus_operators.proofs.Keeps.{keeps_all, keeps_front}
 use Rattle.walrus_body_text.specs.walrus_tree.walrus_walks.walrus_instr.declared.instr.Instr.{Instr}
 use Rattle.walrus_body_text.specs.walrus_tree.walrus_walks.walrus_instr.declared.instr.Instr.TheVariants as instrs
 use Rattle.walrus_pairing.specs.walrus_codes.walrus_instr.declared.instr.Value.{Value}
 use Rattle.walrus_body_text.specs.walrus_tree.walrus_walks.walrus_instr.declared.seq.InstrLocId.{InstrLocId}
 use Rattle.walrus_body_text.specs.walrus_tree.walrus_walks.walrus_instr.declared.seq.InstrSeq.{InstrSeq}
 use Rattle.walrus_body_text.specs.walrus_tree.walrus_walks.walrus_instr.declared.seq.InstrSeqType.{InstrSeqType}
-use Rattle.wasm_immediates.specs.declared.block_type.BlockType.{BlockType}
+use Rattle.wasm_operators.specs.declared.block_type.BlockType.{BlockType}
 use Rattle.walrus_body_text.specs.walrus_tree.walrus_walks.walrus_instr.walrus_forms.declared.value.ValType.{ValType}
 use Rattle.walrus_pairing.specs.walrus_codes.walrus_instr.declared.memory.MemArg.{MemArg}
 use Rattle.walrus_pairing.specs.walrus_codes.walrus_instr.declared.memory.LoadKind.{LoadKind}

@@ -3,11 +3,11 @@ use Rattle.std.specs.Prelude.{ℕ, ◌≡◌, Bool, true, false, List, [], ◌�
 use Rattle.std.specs.Option.{ok_or}
 use Rattle.std.specs.declared.alloc.Global.{Global}
 use Rattle.std.specs.declared.vec.Vec.{Vec}
-use Rattle.wasm_immediates.specs.Items.{Space, Names}
+use Rattle.wasm_operators.specs.Items.{Space, Names}
 use Rattle.wasm_operators.specs.declared.op_code.OpCode.{OpCode}
 use Rattle.wasm_operators.specs.Operators.{Seen}
-use Rattle.walrus_operator_writer.specs.Appended.{Keeps}
-use Rattle.walrus_operator_writer.specs.wasm_operator_bytes.Bytes.{operator_bytes}
+use Rattle.walrus_operators.specs.Appended.{Keeps}
+use Rattle.walrus_operators.specs.wasm_operators.Bytes.{operator_bytes}
 use Rattle.walrus_pairing.specs.Looks.{Or, ◌>>=◌, word}
 use Rattle.walrus_pairing.specs.Write.{op}
 use Rattle.walrus_pairing.specs.declared.error.PairError.{PairError}

@@ -3,7 +3,7 @@ use Rattle.std.specs.Prelude.{◌≡◌, ◌==◌, ◌&&◌, leb, ℕ, ◌+◌, 
 use Rattle.walrus_body_text.specs.walrus_tree.walrus_walks.walrus_instr.declared.seq.InstrLocId.{InstrLocId}
 use Rattle.walrus_body_text.specs.walrus_tree.walrus_walks.walrus_instr.declared.seq.InstrSeq.{InstrSeq}
 use Rattle.wasm_operators.specs.Operators.{Seen}
-use Rattle.walrus_operator_writer.specs.wasm_operator_bytes.Bytes.{operator_bytes}
+use Rattle.walrus_operators.specs.wasm_operators.Bytes.{operator_bytes}
 use Rattle.walrus_pairing.specs.Looks.{Look, Or}
 use Rattle.walrus_pairing.specs.declared.error.PairError.{PairError}
 use Rattle.walrus_pairing.specs.declared.error.PairError.TheVariants as errors

@@ -18,7 +18,7 @@ use Rattle.wasm_formats.specs.declared.fault.Form.TheVariants as forms
 use Rattle.wasm_formats.specs.declared.fault.Limited.TheVariants as limits
 use Rattle.wasm_formats.specs.declared.fault.Space.{Space}
 use Rattle.wasm_formats.specs.declared.fault.Space.TheVariants as spaces
-use Rattle.wasm_immediates.specs.Items.{Types}
+use Rattle.wasm_operators.specs.Items.{Types}
 use Rattle.walrus_body_text.specs.walrus_body_env.declared.error.BodyError.{BodyError}
 use Rattle.walrus_body_text.specs.walrus_body_env.declared.error.BodyError.TheVariants as faults
 use Rattle.walrus_body_writer.specs.declared.output.Output.{Output}

@@ -11,13 +11,13 @@ use Rattle.walrus_body_text.specs.walrus_tree.walrus_walks.walrus_instr.declared
 use Rattle.walrus_body_text.specs.walrus_tree.walrus_walks.walrus_instr.declared.seq.InstrSeqType.{InstrSeqType}
 use Rattle.walrus_body_text.specs.walrus_tree.walrus_walks.walrus_instr.declared.seq.InstrSeqType.TheVariants.{Simple, MultiValue}
 use Rattle.walrus_body_text.specs.walrus_tree.Text.{Piece, Operator, Else, Catch, CatchAll, Delegate, End}
-use Rattle.wasm_immediates.specs.declared.block_type.BlockType.{BlockType}
-use Rattle.wasm_immediates.specs.declared.block_type.BlockType.TheVariants as blocks
-use Rattle.wasm_immediates.specs.declared.clause.Clause.{Clause}
-use Rattle.wasm_immediates.specs.declared.clause.Clause.TheVariants as handlers
-use Rattle.wasm_immediates.specs.Items.{Types, Tags, Labels, Names, Byte, Heap, Block, ManyLabels, ManyClauses}
+use Rattle.wasm_operators.specs.declared.block_type.BlockType.{BlockType}
+use Rattle.wasm_operators.specs.declared.block_type.BlockType.TheVariants as blocks
+use Rattle.wasm_operators.specs.declared.clause.Clause.{Clause}
+use Rattle.wasm_operators.specs.declared.clause.Clause.TheVariants as handlers
+use Rattle.wasm_operators.specs.Items.{Types, Tags, Labels, Names, Byte, Heap, Block, ManyLabels, ManyClauses}
 use Rattle.wasm_operators.specs.Operators.{Seen}
-use Rattle.walrus_operator_writer.specs.wasm_operator_bytes.Bytes.{operator_bytes}
+use Rattle.walrus_operators.specs.wasm_operators.Bytes.{operator_bytes}
 use Rattle.walrus_pairing.specs.walrus_codes.Runs.{byte, object}
 use Rattle.walrus_pairing.specs.Looks.{Look, Or, ◌>>=◌, found}
 use Rattle.walrus_pairing.specs.Types.{type_of, written_heap, written_value}

@@ -1,9 +1,9 @@
 //! Frequent instructions are written straight behind the bytes, with no operator between.
 
 ghost use Rattle.std.specs.Prelude.{◌≡◌, ℕ, [], ◌∷◌, List, None, slice_get};
-ghost use Rattle.wasm_immediates.specs.Items.{Space as Of, Access, Bits, Block, Byte, Functions, Globals, Labels, Locals, Names, Number, S32, S64};
-ghost use Rattle.walrus_operator_writer.specs.Appended.{Appends};
-ghost use Rattle.walrus_operator_writer.specs.wasm_operator_bytes.Bytes.{code_bytes, item_bytes, operator_bytes};
+ghost use Rattle.wasm_operators.specs.Items.{Space as Of, Access, Bits, Block, Byte, Functions, Globals, Labels, Locals, Names, Number, S32, S64};
+ghost use Rattle.walrus_operators.specs.Appended.{Appends};
+ghost use Rattle.walrus_operators.specs.wasm_operators.Bytes.{code_bytes, item_bytes, operator_bytes};
 ghost use Rattle.walrus_pairing.specs.walrus_codes.Runs as codes;
 ghost use Rattle.walrus_pairing.specs.Looks.{Look, word};
 ghost use Rattle.walrus_pairing.specs.Write.{access, access_of, constant, lane_items, log_of, one, op, seen_of};
@@ -20,7 +20,7 @@ use walrus_arena::{FunctionId, GlobalId, InstrSeqId, LocalId, MemoryId};
 use walrus_body_text::tree::instr::{Instr, InstrSeq};
 use walrus_body_text::{Closer, Depths};
 use walrus_index_maps::Space;
-use walrus_operator_writer::{
+use walrus_operators::{
     write_access, write_bits32, write_bits64, write_block_type, write_byte, write_code,
     write_index, write_signed,
 };
@@ -30,8 +30,7 @@ use walrus_pairing::access_codes::operator_codes::{
     byte, code_of_binary, code_of_unary, lane_of_binary, lane_of_unary,
 };
 use walrus_pairing::access_codes::{code_of_load, code_of_store};
-use wasm_immediates::{BlockType, MemoryAccess};
-use wasm_operators::OpCode;
+use wasm_operators::{BlockType, MemoryAccess, OpCode};
 
 // What puts one operator behind the bytes, or a part of it where memory is refused.
 type Done = Result<(), AllocError>;

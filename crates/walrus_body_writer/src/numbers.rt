@@ -1,7 +1,7 @@
 //! The numbers of what a body names.
 
 ghost use Rattle.std.specs.Prelude.{◌≡◌, Ok, Some};
-ghost use Rattle.wasm_immediates.specs.Items.{Tags, Types};
+ghost use Rattle.wasm_operators.specs.Items.{Tags, Types};
 ghost use Rattle.walrus_pairing.specs.Looks.{found};
 ghost use Rattle.walrus_pairing.specs.Types.{type_of};
 ghost use Rattle.walrus_body_writer.specs.Numbers.{look_of};

@@ -19,7 +19,7 @@ use walrus_body_text::{Closer, Depths};
 use walrus_pairing::operator_codes::{byte, object};
 use walrus_pairing::operators::Immediates;
 use walrus_pairing::{PairError, operator_of, write_heap, write_value};
-use wasm_immediates::{BlockType, Clause};
+use wasm_operators::{BlockType, Clause};
 
 /// The type of a sequence.
 #[inline(always)]

@@ -6,7 +6,7 @@ ghost use Rattle.walrus_body_writer.specs.Outputs.{IsAside, IsCut, IsNoted, IsSa
 
 use std::alloc::{AllocError, Global};
 use walrus_body_text::tree::instr::InstrLocId;
-use walrus_operator_writer::write_operator;
+use walrus_operators::write_operator;
 use walrus_pairing::operators::Operator;
 
 /// Bytes that are written, and the places of the operators among them.

@@ -20,7 +20,7 @@ use Rattle.walrus_parse.specs.walrus_file_bodies.walrus_module_bodies.Steps.{Are
 use Rattle.walrus_parse.specs.walrus_file_bodies.walrus_module_bodies.declared.file.FileEnv.{FileEnv}
 use Rattle.walrus_parse.specs.walrus_module.walrus_body_writer.walrus_body_env.declared.error.BodyError.{BodyError}
 use Rattle.walrus_parse.specs.walrus_module.walrus_body_writer.walrus_pairing.walrus_index_maps.Maps.{Ids}
-use Rattle.walrus_parse.specs.walrus_module.walrus_body_writer.walrus_pairing.wasm_immediates.wasm_features.declared.WasmFeatures.{WasmFeatures}
+use Rattle.walrus_parse.specs.walrus_module.walrus_body_writer.walrus_pairing.wasm_operators.wasm_features.declared.WasmFeatures.{WasmFeatures}
 use Rattle.walrus_counted_files.proofs.SlotLemmas.{counted, set_same, set_sizes}
 
 -- so far: with the bodies that were read the functions are these; those of the bodies that are left are as they were

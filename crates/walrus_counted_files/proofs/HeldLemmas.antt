@@ -15,7 +15,7 @@ use Rattle.walrus_parse.specs.walrus_file_bodies.walrus_module_bodies.Laws.{Bodi
 use Rattle.walrus_parse.specs.walrus_file_bodies.walrus_module_bodies.Steps.{IsFiledLater, IsReady, IsStep, ReadsFor, State, state}
 use Rattle.walrus_parse.specs.walrus_file_bodies.walrus_module_bodies.declared.file.FileEnv.{FileEnv}
 use Rattle.walrus_parse.specs.walrus_module.walrus_body_writer.walrus_pairing.walrus_index_maps.Maps.{Ids}
-use Rattle.walrus_parse.specs.walrus_module.walrus_body_writer.walrus_pairing.wasm_immediates.wasm_features.declared.WasmFeatures.{WasmFeatures}
+use Rattle.walrus_parse.specs.walrus_module.walrus_body_writer.walrus_pairing.wasm_operators.wasm_features.declared.WasmFeatures.{WasmFeatures}
 use Rattle.walrus_instr.specs.declared.seq.InstrSeq.{InstrSeq}
 use Rattle.walrus_counts.specs.walrus_module.walrus_builder.Built.{seq_of}
 use Rattle.walrus_parse.proofs.walrus_module_bodies.StepLemmas.{drop_one}

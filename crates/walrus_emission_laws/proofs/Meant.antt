@@ -5,13 +5,13 @@ use Rattle.wasm_ref_types.specs.declared.heap.HeapType.{HeapType as WrittenHeap}
 use Rattle.wasm_ref_types.specs.declared.value.ValType.{ValType as WrittenValue}
 use Rattle.wasm_ref_types.specs.declared.value.ValType.TheVariants.{Ref as WrittenRef}
 use Rattle.wasm_ref_types.specs.Reference.{reference}
-use Rattle.wasm_immediates.specs.declared.block_type.BlockType.{BlockType}
-use Rattle.wasm_immediates.specs.declared.block_type.BlockType.TheVariants as blocks
-use Rattle.wasm_immediates.specs.declared.clause.Clause.{Clause}
-use Rattle.wasm_immediates.specs.Items.{Types, Labels, Names, Byte, Heap, Block, ManyClauses}
+use Rattle.wasm_operators.specs.declared.block_type.BlockType.{BlockType}
+use Rattle.wasm_operators.specs.declared.block_type.BlockType.TheVariants as blocks
+use Rattle.wasm_operators.specs.declared.clause.Clause.{Clause}
+use Rattle.wasm_operators.specs.Items.{Types, Labels, Names, Byte, Heap, Block, ManyClauses}
 use Rattle.wasm_operators.specs.Operators.{Seen}
 use Rattle.wasm_normal_form.specs.Roles.{Placed, placed}
-use Rattle.wasm_operator_bytes.specs.Names.{Renaming, renamed_operator}
+use Rattle.wasm_operators.specs.Names.{Renaming, renamed_operator}
 use Rattle.walrus_forms.specs.declared.value.HeapType.{HeapType}
 use Rattle.walrus_forms.specs.declared.value.HeapType.TheVariants.{Abstract, Concrete, Exact}
 use Rattle.walrus_forms.specs.declared.value.RefType.{RefType}

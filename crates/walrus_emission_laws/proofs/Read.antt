@@ -4,8 +4,8 @@ use Rattle.std.specs.Prelude.{◌≡◌, List, [], ◌∷◌, map}
 use Rattle.wasm_normal_form.specs.Normal.{normal_ops}
 use Rattle.wasm_normal_form.specs.Roles.{Placed, placed}
 use Rattle.wasm_operators.specs.Operators.{Seen}
-use Rattle.wasm_operator_bytes.specs.NameLaws.{RenamesTwice, after}
-use Rattle.wasm_operator_bytes.specs.Names.{Renaming}
+use Rattle.wasm_operators.specs.NameLaws.{RenamesTwice, after}
+use Rattle.wasm_operators.specs.Names.{Renaming}
 use Rattle.walrus_body_trees.specs.Laws.{BodiesMeanTheirs, meant, ops_of, renamed}
 use Rattle.walrus_body_trees.specs.walrus_meaning.Bodies.{own_operators}
 use Rattle.wasm_grammar.specs.Modules.{Placed as Meant}

@@ -1,9 +1,9 @@
 -- Lemmas: what is written for a body that was read runs as it does.
 use Rattle.std.proofs.Common.{◌≡◌, List, [], ◌∷◌, map, ap, subst, sym, refl, ◌∙◌}
-use Rattle.wasm_immediates.specs.Items.{Labels}
+use Rattle.wasm_operators.specs.Items.{Labels}
 use Rattle.wasm_operators.specs.Operators.{Seen}
-use Rattle.wasm_operator_bytes.specs.NameLaws.{after}
-use Rattle.wasm_operator_bytes.specs.Names.{Renaming, renamed_operator}
+use Rattle.wasm_operators.specs.NameLaws.{after}
+use Rattle.wasm_operators.specs.Names.{Renaming, renamed_operator}
 use Rattle.wasm_normal_form.specs.Normal.{normal_ops}
 use Rattle.wasm_normal_form.specs.Roles.{Placed}
 use Rattle.wasm_runs.specs.Programs.{operators as codes}

@@ -4,9 +4,9 @@ use Rattle.wasm_grammar.specs.Modules.{Placed as Meant}
 use Rattle.wasm_normal_form.specs.Normal.{normal, normal_ops}
 use Rattle.wasm_normal_form.specs.Roles.{Placed}
 use Rattle.wasm_normal_form.specs.Trees.{tree_of}
-use Rattle.wasm_immediates.specs.declared.block_type.BlockType.{BlockType}
-use Rattle.wasm_operator_bytes.specs.NameLaws.{after}
-use Rattle.wasm_operator_bytes.specs.Names.{Renaming}
+use Rattle.wasm_operators.specs.declared.block_type.BlockType.{BlockType}
+use Rattle.wasm_operators.specs.NameLaws.{after}
+use Rattle.wasm_operators.specs.Names.{Renaming}
 use Rattle.walrus_body_trees.specs.walrus_body_nesting.wasm_body_grammar.Bodies.{Parts}
 use Rattle.walrus_body_trees.specs.walrus_body_nesting.wasm_body_grammar.Rules.{Around}
 use Rattle.walrus_builder.specs.Built.{seq_of}

@@ -3,9 +3,9 @@ use Rattle.std.specs.Prelude.{ℕ, List, map}
 use Rattle.std.specs.List.{AllByRecursion}
 use Rattle.wasm_normal_form.specs.Normal.{normal}
 use Rattle.wasm_normal_form.specs.Trees.{tree_of}
-use Rattle.wasm_immediates.specs.declared.block_type.BlockType.{BlockType}
-use Rattle.wasm_operator_bytes.specs.NameLaws.{after}
-use Rattle.wasm_operator_bytes.specs.Names.{Renaming}
+use Rattle.wasm_operators.specs.declared.block_type.BlockType.{BlockType}
+use Rattle.wasm_operators.specs.NameLaws.{after}
+use Rattle.wasm_operators.specs.Names.{Renaming}
 use Rattle.walrus_body_trees.specs.walrus_body_nesting.wasm_body_grammar.Bodies.{Parts}
 use Rattle.walrus_body_trees.specs.walrus_body_nesting.wasm_body_grammar.Rules.{Around}
 use Rattle.wasm_runs.specs.Programs.{Signature, operators as codes}

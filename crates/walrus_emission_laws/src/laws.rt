@@ -25,7 +25,7 @@ pub fn read_bodies_are_written()
 {
     bodies_are_meant();
     walrus_body_trees::laws::bodies_mean_their_normal_form();
-    wasm_operator_bytes::laws::renamings_compose();
+    wasm_operators::laws::renamings_compose();
 }
 
 /// What is written for a body that was read executes the same operators as what was read, renamed so, for all outcomes and bounds, and

@@ -10,7 +10,7 @@ use Rattle.walrus_items_into.specs.walrus_tables_into.walrus_sections_into.walru
 use Rattle.walrus_items_into.specs.walrus_tables_into.walrus_sections_into.walrus_known_sections.declared.items.Tag.{Tag as ReadTag}
 use Rattle.walrus_items_into.specs.walrus_tables_into.walrus_sections_into.walrus_known_sections.Items.{tag_of}
 use Rattle.walrus_items_into.specs.walrus_tables_into.walrus_sections_into.walrus_module_items.declared.tag.Tag.{Tag}
-use Rattle.walrus_items_into.specs.walrus_tables_into.walrus_sections_into.wasm_immediates.Items.{Types}
+use Rattle.walrus_items_into.specs.walrus_tables_into.walrus_sections_into.wasm_operators.Items.{Types}
 use Rattle.walrus_items_into.specs.walrus_tables_into.walrus_sections_into.walrus_pairing.Looks.{Look}
 use Rattle.walrus_items_into.specs.walrus_tables_into.walrus_sections_into.Numbers.{upto}
 use Rattle.walrus_items_into.specs.walrus_tables_into.walrus_sections_into.Slots.{Become}

@@ -12,7 +12,7 @@ use Rattle.wasm_formats.specs.Parts.{told_as, told_ok}
 use Rattle.wasm_formats.specs.Bytes.{never, either}
 use Rattle.wasm_formats.specs.Joined.{tested, tested_ok, checked, ends_at}
 use Rattle.wasm_formats.specs.Files.{parse_all}
-use Rattle.walrus_body_parser.specs.walrus_body_locals.wasm_immediates.Items.{Space, Types, Functions, Tables, Memories, Tags, Globals, ElementSegments, DataSegments, Locals, Labels}
+use Rattle.walrus_body_parser.specs.walrus_body_locals.wasm_operators.Items.{Space, Types, Functions, Tables, Memories, Tags, Globals, ElementSegments, DataSegments, Locals, Labels}
 use Rattle.walrus_body_parser.specs.wasm_operators.Operators.{Seen, operator_at}
 use Rattle.walrus_forms.specs.declared.value.ValType.{ValType}
 use Rattle.walrus_forms.specs.Renaming.{at, renamed_value}

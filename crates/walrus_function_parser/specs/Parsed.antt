@@ -9,7 +9,7 @@ use Rattle.walrus_index_maps.specs.Maps.{Ids}
 use Rattle.walrus_instr.specs.declared.seq.InstrSeqType.{InstrSeqType}
 use Rattle.walrus_body_parser.specs.walrus_body_stack.walrus_builder.Built.{Seq}
 use Rattle.wasm_formats.specs.Stops.{Stop}
-use Rattle.walrus_body_parser.specs.walrus_body_locals.wasm_immediates.declared.block_type.BlockType.{BlockType}
+use Rattle.walrus_body_parser.specs.walrus_body_locals.wasm_operators.declared.block_type.BlockType.{BlockType}
 use Rattle.walrus_body_parser.specs.wasm_operators.Operators.{Seen}
 use Rattle.walrus_body_parser.specs.walrus_body_locals.wasm_body_grammar.Rules.{Around}
 use Rattle.walrus_body_parser.specs.walrus_body_locals.wasm_body_grammar.Bodies.{Run, run, body}

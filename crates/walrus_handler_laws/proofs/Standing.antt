@@ -2,11 +2,11 @@
 use Rattle.std.proofs.Common.{◌≡◌, ◌∙◌, ℕ, Bool, List, [], ◌∷◌, ◌++◌, refl, sym, ap, subst}
 use Rattle.std.specs.Prelude.{Option, Some, None, slice_get}
 use Rattle.std.specs.Option.{option_map}
-use Rattle.walrus_body_steps.specs.walrus_body_nesting.wasm_normal_form.wasm_immediates.declared.block_type.BlockType.{BlockType}
-use Rattle.walrus_body_steps.specs.walrus_body_nesting.wasm_normal_form.wasm_immediates.declared.block_type.BlockType.TheVariants as blocks
-use Rattle.walrus_body_steps.specs.walrus_body_nesting.wasm_normal_form.wasm_immediates.declared.clause.Clause.{Clause}
-use Rattle.walrus_body_steps.specs.walrus_body_nesting.wasm_normal_form.wasm_immediates.declared.clause.Clause.TheVariants as clauses
-use Rattle.walrus_body_steps.specs.walrus_body_nesting.wasm_normal_form.wasm_immediates.Items.{Types, Labels, Item, Names, Byte, Heap, ManyLabels}
+use Rattle.walrus_body_steps.specs.walrus_body_nesting.wasm_normal_form.wasm_operators.declared.block_type.BlockType.{BlockType}
+use Rattle.walrus_body_steps.specs.walrus_body_nesting.wasm_normal_form.wasm_operators.declared.block_type.BlockType.TheVariants as blocks
+use Rattle.walrus_body_steps.specs.walrus_body_nesting.wasm_normal_form.wasm_operators.declared.clause.Clause.{Clause}
+use Rattle.walrus_body_steps.specs.walrus_body_nesting.wasm_normal_form.wasm_operators.declared.clause.Clause.TheVariants as clauses
+use Rattle.walrus_body_steps.specs.walrus_body_nesting.wasm_normal_form.wasm_operators.Items.{Types, Labels, Item, Names, Byte, Heap, ManyLabels}
 use Rattle.walrus_body_steps.specs.walrus_body_nesting.wasm_body_grammar.wasm_operators.declared.op_code.OpCode.{OpCode}
 use Rattle.walrus_body_steps.specs.walrus_body_nesting.wasm_body_grammar.wasm_operators.Operators.{Seen}
 use Rattle.walrus_body_steps.specs.walrus_body_nesting.wasm_normal_form.Trees.{Tree, Close, Arm, Skip, Run, Nest}

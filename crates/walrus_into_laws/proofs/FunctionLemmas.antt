@@ -7,7 +7,7 @@ use Rattle.walrus_parse.specs.walrus_file_bodies.walrus_items_into.walrus_tables
 use Rattle.walrus_parse.specs.walrus_file_bodies.walrus_items_into.walrus_tables_into.walrus_sections_into.walrus_known_sections.Items.{function_of, function_origin}
 use Rattle.walrus_parse.specs.walrus_file_bodies.walrus_items_into.walrus_tables_into.walrus_sections_into.walrus_pairing.Looks.{Look}
 use Rattle.walrus_parse.specs.walrus_file_bodies.walrus_items_into.walrus_tables_into.walrus_sections_into.walrus_pairing.walrus_items.declared.local.Local.{Local}
-use Rattle.walrus_parse.specs.walrus_file_bodies.walrus_items_into.walrus_tables_into.walrus_sections_into.wasm_immediates.Items.{Types}
+use Rattle.walrus_parse.specs.walrus_file_bodies.walrus_items_into.walrus_tables_into.walrus_sections_into.wasm_operators.Items.{Types}
 use Rattle.walrus_parse.specs.walrus_file_bodies.walrus_items_into.walrus_tables_into.walrus_sections_into.Slots.{Become}
 use Rattle.walrus_parse.specs.walrus_file_bodies.walrus_items_into.walrus_tables_into.walrus_meaning.walrus_linked.walrus_module_items.declared.function.Function.{Function}
 use Rattle.walrus_parse.specs.walrus_file_bodies.walrus_items_into.walrus_tables_into.walrus_meaning.walrus_linked.walrus_module_items.Functions.{type_of}

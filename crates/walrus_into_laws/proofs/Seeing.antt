@@ -4,7 +4,7 @@ use Rattle.std.specs.Option.{option_map, unwrap_or}
 use Rattle.walrus_arena.specs.Arena.{Arena}
 use Rattle.walrus_parse.specs.walrus_file_bodies.walrus_items_into.walrus_tables_into.walrus_meaning.Meaning.{slots_of}
 use Rattle.walrus_parse.specs.walrus_file_bodies.walrus_items_into.walrus_tables_into.walrus_sections_into.walrus_pairing.Looks.{Look}
-use Rattle.walrus_parse.specs.walrus_file_bodies.walrus_items_into.walrus_tables_into.walrus_sections_into.wasm_immediates.Items.{Space, Types, Functions, Tables, Memories, Tags, Globals, ElementSegments, DataSegments, Locals, Labels}
+use Rattle.walrus_parse.specs.walrus_file_bodies.walrus_items_into.walrus_tables_into.walrus_sections_into.wasm_operators.Items.{Space, Types, Functions, Tables, Memories, Tags, Globals, ElementSegments, DataSegments, Locals, Labels}
 use Rattle.walrus_parse.specs.walrus_file_bodies.walrus_items_into.walrus_tables_into.walrus_sections_into.Becomes.{renames_by}
 use Rattle.walrus_parse.specs.walrus_file_bodies.walrus_items_into.walrus_tables_into.walrus_sections_into.Slots.{Become, Filled, filled_seen}
 use Rattle.walrus_parse.specs.wasm_spelled_modules.wasm_module_rules.Linked.{Each}

@@ -5,7 +5,7 @@ use Rattle.walrus_parse.specs.walrus_file_bodies.walrus_items_into.walrus_tables
 use Rattle.walrus_parse.specs.walrus_file_bodies.walrus_items_into.walrus_tables_into.walrus_meaning.walrus_linked.walrus_module_items.Functions.{type_of}
 use Rattle.walrus_parse.specs.walrus_file_bodies.walrus_items_into.walrus_tables_into.walrus_sections_into.walrus_known_sections.declared.items.Function.{Function as ReadFunction}
 use Rattle.walrus_parse.specs.walrus_file_bodies.walrus_items_into.walrus_tables_into.walrus_sections_into.walrus_pairing.Looks.{Look}
-use Rattle.walrus_parse.specs.walrus_file_bodies.walrus_items_into.walrus_tables_into.walrus_sections_into.wasm_immediates.Items.{Types}
+use Rattle.walrus_parse.specs.walrus_file_bodies.walrus_items_into.walrus_tables_into.walrus_sections_into.wasm_operators.Items.{Types}
 use Rattle.walrus_parse.specs.walrus_file_bodies.walrus_items_into.walrus_tables_into.walrus_sections_into.Slots.{Filled}
 use Rattle.walrus_parse.specs.walrus_file_bodies.walrus_items_into.walrus_functions_into.Functions.{AreTyped, functions_from, kind_of}
 

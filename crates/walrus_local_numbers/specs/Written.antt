@@ -13,7 +13,7 @@ use Rattle.walrus_body_writer.specs.walrus_pairing.Looks.{Or, ◌>>=◌}
 use Rattle.walrus_body_writer.specs.walrus_pairing.Types.{written_value}
 use Rattle.walrus_body_writer.specs.walrus_pairing.declared.error.PairError.{PairError}
 use Rattle.walrus_body_writer.specs.walrus_pairing.declared.error.PairError.TheVariants as errors
-use Rattle.walrus_operator_writer.specs.wasm_operator_bytes.Bytes.{unsigned_bytes, value_bytes, vec_bytes}
+use Rattle.walrus_operators.specs.wasm_operators.Bytes.{unsigned_bytes, value_bytes, vec_bytes}
 use Rattle.walrus_body_writer.specs.Refusals.{fault_of}
 use Rattle.wasm_normal_form.specs.Locals.{Key}
 use Rattle.walrus_local_numbers.specs.Declared.{declared, has_lost, has_number, is_lost, key_at}

@@ -1,7 +1,7 @@
 //! Runs of locals of one type.
 
 ghost use Rattle.std.specs.Prelude.{◌≡◌, ◌++◌, map, IfOk, OnOk, IfErr};
-ghost use Rattle.walrus_operator_writer.specs.Appended.{Appends};
+ghost use Rattle.walrus_operators.specs.Appended.{Appends};
 ghost use Rattle.wasm_normal_form.specs.Locals.{runs_of};
 ghost use Rattle.walrus_index_maps.specs.Views.{indices};
 ghost use Rattle.walrus_local_numbers.specs.Declared.{add_last};
@@ -12,7 +12,7 @@ use std::alloc::{AllocError, Global};
 use walrus_body_writer::pairing::{PairError, write_value};
 use walrus_forms::ValType;
 use walrus_index_maps::IdsToIndices;
-use walrus_operator_writer::{write_unsigned, write_value_type};
+use walrus_operators::{write_unsigned, write_value_type};
 use wasm_ref_types::ValType as WrittenType;
 
 // So many locals of a type.
@@ -69,7 +69,7 @@ pub(crate) fn written(
     Ok(written)
 }
 
-#[tactic(auto, using(walrus_operator_writer::proofs::Appends::appends_on))]
+#[tactic(auto, using(walrus_operators::proofs::Appends::appends_on))]
 fn write_run(out: &mut Vec<u8>, run: (u32, WrittenType)) -> Result<(), AllocError>
     ensures { Appends (run_bytes run) out.old.items out.new.items result }
 {
@@ -82,7 +82,7 @@ fn write_run(out: &mut Vec<u8>, run: (u32, WrittenType)) -> Result<(), AllocErro
 /// # Errors
 ///
 /// Want of memory. What was there stands at the front.
-#[tactic(auto, using(walrus_operator_writer::proofs::Keeps::keeps_on, std::proofs::lemmas::List::append_assoc))]
+#[tactic(auto, using(walrus_operators::proofs::Keeps::keeps_on, std::proofs::lemmas::List::append_assoc))]
 pub(crate) fn write(out: &mut Vec<u8>, runs: &[(u32, WrittenType)]) -> Result<(), AllocError>
     ensures { Appends (runs_bytes runs.now) out.old.items out.new.items result }
 {

@@ -1,11 +1,11 @@
 -- Bodies as their trees stand, where each id is its own number.
 use Rattle.std.specs.Prelude.{ℕ, suc, ◌==◌, ◌&&◌, not, Bool, true, false, List, [], ◌∷◌, ◌++◌, map, Option, Some, None, slice_get, if◌then◌else◌}
 use Rattle.std.specs.List.{flat_map, filter, list_any}
-use Rattle.wasm_immediates.specs.declared.block_type.BlockType.{BlockType}
-use Rattle.wasm_immediates.specs.declared.block_type.BlockType.TheVariants.{Empty}
-use Rattle.wasm_immediates.specs.declared.clause.Clause.{Clause}
-use Rattle.wasm_immediates.specs.declared.clause.Clause.TheVariants as handlers
-use Rattle.wasm_immediates.specs.Items.{Labels, Tags, Names, Byte, Heap, Block, ManyLabels, ManyClauses}
+use Rattle.wasm_operators.specs.declared.block_type.BlockType.{BlockType}
+use Rattle.wasm_operators.specs.declared.block_type.BlockType.TheVariants.{Empty}
+use Rattle.wasm_operators.specs.declared.clause.Clause.{Clause}
+use Rattle.wasm_operators.specs.declared.clause.Clause.TheVariants as handlers
+use Rattle.wasm_operators.specs.Items.{Labels, Tags, Names, Byte, Heap, Block, ManyLabels, ManyClauses}
 use Rattle.wasm_operators.specs.Operators.{Seen}
 use Rattle.walrus_forms.specs.declared.value.RefType.{RefType}
 use Rattle.walrus_items.specs.declared.local.Local.{Local}

@@ -1,9 +1,9 @@
 -- What a walk is told of an instruction, and what its operator names.
 use Rattle.std.specs.Prelude.{◌≡◌, Bool, true, false, List, reverse, Option, Some, None, Ok, if◌then◌else◌}
 use Rattle.std.specs.List.{filter_map}
-use Rattle.wasm_immediates.specs.Items.{Types, Functions, Tables, Memories, Tags, Globals, ElementSegments, DataSegments, Locals, Labels}
+use Rattle.wasm_operators.specs.Items.{Types, Functions, Tables, Memories, Tags, Globals, ElementSegments, DataSegments, Locals, Labels}
 use Rattle.wasm_operators.specs.Operators.{Seen}
-use Rattle.walrus_pairing.specs.wasm_operator_bytes.Names.{Name, operator_names}
+use Rattle.walrus_pairing.specs.wasm_operators.Names.{Name, operator_names}
 use Rattle.walrus_instr.specs.declared.instr.Instr.{Instr}
 use Rattle.walrus_instr.specs.declared.instr.Instr.TheVariants.{MemoryInit, MemoryCopy, TableInit, TableCopy, ArrayCopy}
 use Rattle.walrus_builder.specs.walrus_walks.Events.{Event, NamesSeq, NamesLocal, NamesMemory, NamesTable, NamesGlobal, NamesFunction, NamesData, NamesType, NamesElement, NamesTag, names}

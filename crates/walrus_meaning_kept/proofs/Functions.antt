@@ -7,8 +7,8 @@ use Rattle.std.proofs.lemmas.List.Elements.{filter_map-append}
 use Rattle.walrus_meaning_refs.specs.wasm_references.wasm_formats.declared.fault.Space.{Space}
 use Rattle.walrus_meaning_refs.specs.wasm_references.wasm_formats.declared.fault.Space.TheVariants as spaces
 use Rattle.walrus_meaning_refs.specs.wasm_references.wasm_grammar.Modules as grammar
-use Rattle.walrus_meaning_refs.specs.wasm_references.wasm_immediates.Items as immediates
-use Rattle.walrus_meaning_refs.specs.wasm_references.wasm_operator_bytes.Names.{Name, operator_names, block_names}
+use Rattle.walrus_meaning_refs.specs.wasm_references.wasm_operators.Items as immediates
+use Rattle.walrus_meaning_refs.specs.wasm_references.wasm_operators.Names.{Name, operator_names, block_names}
 use Rattle.walrus_meaning_refs.specs.wasm_references.References as abstract
 use Rattle.walrus_meaning_refs.specs.walrus_meaning.Told.{told as told_name, told_all}
 use Rattle.walrus_walks.specs.walrus_forms.declared.value.ValType.{ValType}

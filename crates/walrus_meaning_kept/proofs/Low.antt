@@ -6,10 +6,10 @@ use Rattle.std.specs.Option.{option_to_list}
 use Rattle.walrus_meaning_refs.specs.wasm_references.wasm_formats.declared.fault.Space.{Space}
 use Rattle.walrus_meaning_refs.specs.wasm_references.wasm_formats.declared.fault.Space.TheVariants as spaces
 use Rattle.walrus_meaning_refs.specs.wasm_references.wasm_grammar.Modules.{Item, Expr, Origin, Imported, Own, Placed, Body, Function, Table, Global, Mode, Passive, Declared, Active, Elements, Functions, Expressions, Element}
-use Rattle.walrus_meaning_refs.specs.wasm_references.wasm_immediates.Items as immediates
-use Rattle.walrus_meaning_refs.specs.wasm_references.wasm_immediates.declared.block_type.BlockType.{BlockType}
+use Rattle.walrus_meaning_refs.specs.wasm_references.wasm_operators.Items as immediates
+use Rattle.walrus_meaning_refs.specs.wasm_references.wasm_operators.declared.block_type.BlockType.{BlockType}
 use Rattle.walrus_meaning_refs.specs.wasm_references.wasm_operators.Operators.{Seen}
-use Rattle.walrus_meaning_refs.specs.wasm_references.wasm_operator_bytes.Names.{Name, operator_names, block_names}
+use Rattle.walrus_meaning_refs.specs.wasm_references.wasm_operators.Names.{Name, operator_names, block_names}
 use Rattle.walrus_meaning_refs.specs.wasm_references.References.{Numbered, item, ref_items, value_items, local_items, name_items, names_items, no_locals, expr_items, body_items, origin_items, function_items, init_items, table_items, global_items, tag_items, mode_items, held_items, element_items, segment_items, slot, named_by, HasElement, HasData, RefersIn, Refers}
 use Rattle.walrus_walks.specs.walrus_forms.Kinds.{kind_names}
 use Rattle.walrus_walks.specs.walrus_forms.Values.{ref_name, value_name}

@@ -4,7 +4,7 @@ use Rattle.std.specs.Prelude.{◌≡◌, ◌⊎◌, ◌↔◌, ℕ, true, List, 
 use Rattle.std.specs.HashSet.{keys}
 use Rattle.walrus_meaning_refs.specs.wasm_references.wasm_formats.declared.fault.Space.{Space}
 use Rattle.walrus_meaning_refs.specs.wasm_references.wasm_formats.declared.fault.Space.TheVariants as spaces
-use Rattle.walrus_meaning_refs.specs.wasm_references.wasm_immediates.declared.block_type.BlockType.{BlockType}
+use Rattle.walrus_meaning_refs.specs.wasm_references.wasm_operators.declared.block_type.BlockType.{BlockType}
 use Rattle.walrus_meaning_refs.specs.wasm_references.References as abstract
 use Rattle.walrus_meaning_refs.specs.wasm_references.References.{Numbered}
 use Rattle.walrus_meaning_refs.specs.wasm_references.Kept.{Kept as KeptOf}

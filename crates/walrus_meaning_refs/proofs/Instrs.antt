@@ -3,8 +3,8 @@ use Rattle.std.proofs.Common.{◌≡◌, ◌∙◌, ℕ, Bool, true, List, [], �
 use Rattle.std.specs.Prelude.{slice_get, length}
 use Rattle.std.specs.List.{flat_map}
 use Rattle.std.proofs.lemmas.List.Elements.{filter_map-append}
-use Rattle.wasm_references.specs.wasm_immediates.Items.{Labels, Tags}
-use Rattle.wasm_references.specs.wasm_operator_bytes.Names.{Name, operator_names, block_names, heap_names, clause_names, label_name}
+use Rattle.wasm_references.specs.wasm_operators.Items.{Labels, Tags}
+use Rattle.wasm_references.specs.wasm_operators.Names.{Name, operator_names, block_names, heap_names, clause_names, label_name}
 use Rattle.walrus_walks.specs.walrus_forms.declared.value.HeapType.{HeapType}
 use Rattle.walrus_walks.specs.walrus_forms.declared.value.HeapType.TheVariants.{Abstract, Concrete, Exact}
 use Rattle.walrus_walks.specs.walrus_forms.declared.value.RefType.{RefType}

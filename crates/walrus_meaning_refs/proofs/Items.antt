@@ -5,7 +5,7 @@ use Rattle.std.specs.Option.{option_map}
 use Rattle.wasm_references.specs.wasm_formats.declared.fault.Space.TheVariants as spaces
 use Rattle.wasm_references.specs.wasm_grammar.Modules as grammar
 use Rattle.wasm_references.specs.wasm_operators.Operators.{Seen}
-use Rattle.wasm_references.specs.wasm_operator_bytes.Names.{operator_names}
+use Rattle.wasm_references.specs.wasm_operators.Names.{operator_names}
 use Rattle.wasm_references.specs.References as abstract
 use Rattle.walrus_walks.specs.walrus_forms.declared.value.HeapType.{HeapType}
 use Rattle.walrus_walks.specs.walrus_forms.declared.value.HeapType.TheVariants.{Abstract, Concrete, Exact}

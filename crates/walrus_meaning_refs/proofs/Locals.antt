@@ -4,18 +4,18 @@ use Rattle.std.specs.Prelude.{◌==◌, slice_get}
 use Rattle.std.specs.List.{flat_map, filter}
 use Rattle.std.proofs.lemmas.Bool.{cases_eq, eq-eqb, ne_eqb, false≢true}
 use Rattle.wasm_references.specs.wasm_grammar.Modules.{Placed}
-use Rattle.wasm_references.specs.wasm_immediates.Items.{Space, Types, Functions, Tables, Memories, Tags, Globals, ElementSegments, DataSegments, Locals, Labels, Item, Names, Number, S32, S64, Bits, Byte, Bytes, Heap, Block, Access, ManyLabels, ManyValues, ManyClauses}
-use Rattle.wasm_references.specs.wasm_immediates.declared.block_type.BlockType.{BlockType}
-use Rattle.wasm_references.specs.wasm_immediates.declared.block_type.BlockType.TheVariants as blocks
-use Rattle.wasm_references.specs.wasm_immediates.declared.clause.Clause.{Clause}
-use Rattle.wasm_references.specs.wasm_immediates.declared.clause.Clause.TheVariants as handlers
-use Rattle.wasm_references.specs.wasm_operator_bytes.wasm_ref_types.declared.heap.HeapType.{HeapType}
-use Rattle.wasm_references.specs.wasm_operator_bytes.wasm_ref_types.declared.heap.HeapType.TheVariants.{Abstract, Concrete, Exact}
-use Rattle.wasm_references.specs.wasm_operator_bytes.wasm_ref_types.declared.index.UnpackedIndex.{UnpackedIndex}
-use Rattle.wasm_references.specs.wasm_operator_bytes.wasm_ref_types.declared.index.UnpackedIndex.TheVariants.{Module, RecGroup, Id}
-use Rattle.wasm_references.specs.wasm_operator_bytes.wasm_ref_types.declared.value.ValType.{ValType as WrittenValue}
-use Rattle.wasm_references.specs.wasm_operator_bytes.wasm_ref_types.declared.value.ValType.TheVariants.{I32, I64, F32, F64, V128, Ref}
-use Rattle.wasm_references.specs.wasm_operator_bytes.Names.{Name, index_names, heap_names, value_names, block_names, clause_names, label_name, item_names, operator_names}
+use Rattle.wasm_references.specs.wasm_operators.Items.{Space, Types, Functions, Tables, Memories, Tags, Globals, ElementSegments, DataSegments, Locals, Labels, Item, Names, Number, S32, S64, Bits, Byte, Bytes, Heap, Block, Access, ManyLabels, ManyValues, ManyClauses}
+use Rattle.wasm_references.specs.wasm_operators.declared.block_type.BlockType.{BlockType}
+use Rattle.wasm_references.specs.wasm_operators.declared.block_type.BlockType.TheVariants as blocks
+use Rattle.wasm_references.specs.wasm_operators.declared.clause.Clause.{Clause}
+use Rattle.wasm_references.specs.wasm_operators.declared.clause.Clause.TheVariants as handlers
+use Rattle.wasm_references.specs.wasm_operators.wasm_ref_types.declared.heap.HeapType.{HeapType}
+use Rattle.wasm_references.specs.wasm_operators.wasm_ref_types.declared.heap.HeapType.TheVariants.{Abstract, Concrete, Exact}
+use Rattle.wasm_references.specs.wasm_operators.wasm_ref_types.declared.index.UnpackedIndex.{UnpackedIndex}
+use Rattle.wasm_references.specs.wasm_operators.wasm_ref_types.declared.index.UnpackedIndex.TheVariants.{Module, RecGroup, Id}
+use Rattle.wasm_references.specs.wasm_operators.wasm_ref_types.declared.value.ValType.{ValType as WrittenValue}
+use Rattle.wasm_references.specs.wasm_operators.wasm_ref_types.declared.value.ValType.TheVariants.{I32, I64, F32, F64, V128, Ref}
+use Rattle.wasm_references.specs.wasm_operators.Names.{Name, index_names, heap_names, value_names, block_names, clause_names, label_name, item_names, operator_names}
 use Rattle.walrus_meaning.specs.walrus_local_function.walrus_body_locals.wasm_normal_form.Locals.{Key, key_cmp, is_less, insert_key, in_order, numbered}
 use Rattle.walrus_meaning.specs.walrus_local_function.walrus_body_locals.wasm_normal_form.Bodies.{local_in}
 use Rattle.walrus_walks.specs.walrus_forms.declared.value.ValType.{ValType}

@@ -3,8 +3,8 @@ use Rattle.std.specs.Prelude.{List, ◌++◌, map}
 use Rattle.std.specs.List.{flat_map}
 use Rattle.wasm_references.specs.wasm_body_grammar.Rules.{space_of}
 use Rattle.wasm_references.specs.wasm_grammar.Modules.{Placed}
-use Rattle.wasm_references.specs.wasm_immediates.declared.block_type.BlockType.{BlockType}
-use Rattle.wasm_references.specs.wasm_operator_bytes.Names.{Name, operator_names, block_names}
+use Rattle.wasm_references.specs.wasm_operators.declared.block_type.BlockType.{BlockType}
+use Rattle.wasm_references.specs.wasm_operators.Names.{Name, operator_names, block_names}
 use Rattle.walrus_walks.specs.walrus_instr.declared.seq.InstrLocId.{InstrLocId}
 use Rattle.walrus_walks.specs.walrus_instr.declared.seq.InstrSeq.{InstrSeq}
 use Rattle.walrus_walks.specs.Walk.{body_walk}

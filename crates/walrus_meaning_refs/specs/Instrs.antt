@@ -1,9 +1,9 @@
 -- What an instruction names, beside what its pieces of the text name.
 use Rattle.std.specs.Prelude.{ℕ, ◌↔◌, List, [], ◌∷◌, ◌++◌, map, drop, Contains, slice_get}
 use Rattle.std.specs.List.{flat_map}
-use Rattle.wasm_references.specs.wasm_immediates.declared.block_type.BlockType.{BlockType}
-use Rattle.wasm_references.specs.wasm_operator_bytes.Names.{Name, operator_names, block_names}
-use Rattle.wasm_references.specs.wasm_immediates.Items.{Space, Labels}
+use Rattle.wasm_references.specs.wasm_operators.declared.block_type.BlockType.{BlockType}
+use Rattle.wasm_references.specs.wasm_operators.Names.{Name, operator_names, block_names}
+use Rattle.wasm_references.specs.wasm_operators.Items.{Space, Labels}
 use Rattle.walrus_walks.specs.walrus_instr.declared.instr.Instr.{Instr}
 use Rattle.walrus_walks.specs.walrus_instr.declared.seq.InstrSeq.{InstrSeq}
 use Rattle.walrus_walks.specs.Events.{names}

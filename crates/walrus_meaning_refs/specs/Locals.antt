@@ -3,8 +3,8 @@ use Rattle.std.specs.Prelude.{◌≡◌, ◌↔◌, ℕ, List, Option, Some, Con
 use Rattle.std.specs.List.{flat_map}
 use Rattle.std.specs.Option.{option_map}
 use Rattle.wasm_references.specs.wasm_grammar.Modules.{Placed}
-use Rattle.wasm_references.specs.wasm_immediates.Items.{Locals}
-use Rattle.wasm_references.specs.wasm_operator_bytes.Names.{operator_names}
+use Rattle.wasm_references.specs.wasm_operators.Items.{Locals}
+use Rattle.wasm_references.specs.wasm_operators.Names.{operator_names}
 use Rattle.walrus_walks.specs.walrus_forms.declared.value.ValType.{ValType}
 use Rattle.walrus_walks.specs.walrus_instr.walrus_items.declared.local.Local.{Local}
 use Rattle.walrus_meaning.specs.walrus_local_function.declared.local_function.LocalFunction.{LocalFunction}

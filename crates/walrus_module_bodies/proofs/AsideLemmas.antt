@@ -13,9 +13,9 @@ use Rattle.walrus_module_env.specs.walrus_body_parser.walrus_body_rules.wasm_bod
 use Rattle.walrus_module_env.specs.walrus_body_parser.walrus_body_rules.wasm_body_grammar.Rules as grammar
 use Rattle.walrus_module_env.specs.walrus_body_parser.walrus_body_rules.wasm_body_grammar.Rules.{Around}
 use Rattle.walrus_module_env.specs.walrus_body_parser.walrus_body_rules.wasm_grammar.Values.{must}
-use Rattle.walrus_module_env.specs.walrus_body_parser.wasm_operators.wasm_immediates.Items.{Space, Types, Functions, Tables, Memories, Tags, Globals, ElementSegments, DataSegments, Locals, Labels}
-use Rattle.walrus_module_env.specs.walrus_body_parser.wasm_operators.wasm_immediates.declared.block_type.BlockType.{BlockType}
-use Rattle.walrus_module_env.specs.walrus_body_parser.wasm_operators.wasm_immediates.declared.block_type.BlockType.TheVariants as blocks
+use Rattle.walrus_module_env.specs.walrus_body_parser.wasm_operators.Items.{Space, Types, Functions, Tables, Memories, Tags, Globals, ElementSegments, DataSegments, Locals, Labels}
+use Rattle.walrus_module_env.specs.walrus_body_parser.wasm_operators.declared.block_type.BlockType.{BlockType}
+use Rattle.walrus_module_env.specs.walrus_body_parser.wasm_operators.declared.block_type.BlockType.TheVariants as blocks
 use Rattle.walrus_module_env.specs.walrus_body_parser.walrus_body_stack.walrus_builder.Built.{Seq}
 use Rattle.walrus_module_env.specs.walrus_body_parser.walrus_body_stack.walrus_instr.declared.seq.InstrSeqType.{InstrSeqType}
 use Rattle.walrus_module_env.specs.walrus_body_parser.walrus_body_stack.walrus_instr.walrus_types.walrus_items.declared.local.Local.{Local}

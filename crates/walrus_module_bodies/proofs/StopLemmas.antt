@@ -23,9 +23,9 @@ use Rattle.walrus_module_env.specs.walrus_body_parser.walrus_body_rules.Sights.{
 use Rattle.walrus_module_env.specs.walrus_body_parser.walrus_body_rules.wasm_body_grammar.Bodies.{Point, Run, body, is_closed, next_total}
 use Rattle.walrus_module_env.specs.walrus_body_parser.wasm_operators.Operators.{Seen}
 use Rattle.walrus_module_env.specs.walrus_body_parser.walrus_body_rules.wasm_body_grammar.Rules.{Around}
-use Rattle.walrus_module_env.specs.walrus_body_parser.wasm_operators.wasm_immediates.Items.{Types}
-use Rattle.walrus_module_env.specs.walrus_body_parser.wasm_operators.wasm_immediates.declared.block_type.BlockType.{BlockType}
-use Rattle.walrus_module_env.specs.walrus_body_parser.wasm_operators.wasm_immediates.declared.block_type.BlockType.TheVariants as blocks
+use Rattle.walrus_module_env.specs.walrus_body_parser.wasm_operators.Items.{Types}
+use Rattle.walrus_module_env.specs.walrus_body_parser.wasm_operators.declared.block_type.BlockType.{BlockType}
+use Rattle.walrus_module_env.specs.walrus_body_parser.wasm_operators.declared.block_type.BlockType.TheVariants as blocks
 use Rattle.walrus_module_env.specs.walrus_body_parser.walrus_body_stack.walrus_instr.BlockTypes.{picked}
 use Rattle.walrus_module_env.specs.walrus_body_parser.walrus_body_stack.walrus_instr.declared.seq.InstrSeqType.{InstrSeqType}
 use Rattle.walrus_module_env.specs.walrus_body_parser.walrus_body_stack.walrus_instr.declared.seq.InstrSeqType.TheVariants.{Simple, MultiValue}

@@ -5,8 +5,8 @@ use Rattle.wasm_reader.specs.Cursor.{Cursor, end_of, rest}
 use Rattle.walrus_index_maps.specs.Maps.{Ids}
 use Rattle.walrus_module_env.specs.walrus_body_parser.wasm_operators.declared.op_code.OpCode.{OpCode}
 use Rattle.walrus_module_env.specs.walrus_body_parser.wasm_operators.Operators.{Seen}
-use Rattle.walrus_module_env.specs.walrus_body_parser.wasm_operators.wasm_immediates.Items.{Labels, Item, Names, Byte, Heap, ManyLabels}
-use Rattle.walrus_module_env.specs.walrus_body_parser.wasm_operators.wasm_immediates.declared.block_type.BlockType.{BlockType}
+use Rattle.walrus_module_env.specs.walrus_body_parser.wasm_operators.Items.{Labels, Item, Names, Byte, Heap, ManyLabels}
+use Rattle.walrus_module_env.specs.walrus_body_parser.wasm_operators.declared.block_type.BlockType.{BlockType}
 use Rattle.walrus_module_env.specs.walrus_body_parser.Points.{op_told, ops_from, place_at}
 use Rattle.walrus_module_env.specs.walrus_body_parser.Trees.{parser_of}
 use Rattle.walrus_module_env.specs.walrus_body_parser.walrus_body_locals.Told.{Pass}

@@ -5,9 +5,9 @@ use Rattle.std.specs.Int.{w128, from_le_bytes}
 use Rattle.std.specs.List.{list_any}
 use Rattle.std.specs.Option.{option_map}
 use Rattle.std.proofs.lemmas.Bool.{false≢true}
-use Rattle.walrus_module_env.specs.walrus_body_parser.wasm_operators.wasm_immediates.wasm_ref_types.declared.value.ValType.{ValType as WrittenValue}
-use Rattle.walrus_module_env.specs.walrus_body_parser.wasm_operators.wasm_immediates.declared.memory_access.MemoryAccess.{MemoryAccess}
-use Rattle.walrus_module_env.specs.walrus_body_parser.wasm_operators.wasm_immediates.Items.{Space, Types, Functions, Tables, Memories, Tags, Globals, ElementSegments, DataSegments, Locals, Labels, Item, Names, Number, S32, S64, Bits, Byte, Bytes, Heap, Access, ManyValues}
+use Rattle.walrus_module_env.specs.walrus_body_parser.wasm_operators.wasm_ref_types.declared.value.ValType.{ValType as WrittenValue}
+use Rattle.walrus_module_env.specs.walrus_body_parser.wasm_operators.declared.memory_access.MemoryAccess.{MemoryAccess}
+use Rattle.walrus_module_env.specs.walrus_body_parser.wasm_operators.Items.{Space, Types, Functions, Tables, Memories, Tags, Globals, ElementSegments, DataSegments, Locals, Labels, Item, Names, Number, S32, S64, Bits, Byte, Bytes, Heap, Access, ManyValues}
 use Rattle.walrus_module_env.specs.walrus_body_parser.wasm_operators.declared.op_code.OpCode.{OpCode}
 use Rattle.walrus_module_env.specs.walrus_body_parser.wasm_operators.Operators.{Seen}
 use Rattle.walrus_forms.specs.declared.value.HeapType.{HeapType}

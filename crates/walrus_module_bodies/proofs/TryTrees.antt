@@ -8,7 +8,7 @@ use Rattle.walrus_module_env.specs.walrus_body_parser.wasm_operators.declared.en
 use Rattle.walrus_module_env.specs.walrus_body_parser.wasm_operators.declared.entry.Flow.TheVariants as flows
 use Rattle.walrus_module_env.specs.walrus_body_parser.wasm_operators.Table.{find_code, structure_rows, call_rows, plain_rows, fb_rows, fc_rows, fd_rows, fe_rows}
 use Rattle.walrus_module_env.specs.walrus_body_parser.wasm_operators.Operators.{Seen, flow_in, flow_of}
-use Rattle.walrus_module_env.specs.walrus_body_parser.wasm_operators.wasm_immediates.declared.block_type.BlockType.{BlockType}
+use Rattle.walrus_module_env.specs.walrus_body_parser.wasm_operators.declared.block_type.BlockType.{BlockType}
 use Rattle.walrus_module_env.specs.walrus_body_parser.walrus_body_stack.wasm_normal_form.Roles.{placed, role, Role, Passes, Runs, Opens, Turns, Ends, cuts, is_if}
 use Rattle.walrus_module_env.specs.walrus_body_parser.walrus_body_stack.wasm_normal_form.Trees.{Tree, Close, Arm, Skip, Run, Nest, prepend, open_in, innermost, tree_of}
 use Rattle.walrus_module_env.specs.walrus_body_parser.walrus_body_stack.wasm_normal_form.Normal.{normal, normal_from}

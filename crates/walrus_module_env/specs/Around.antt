@@ -8,9 +8,9 @@ use Rattle.walrus_index_maps.specs.Maps.{Ids}
 use Rattle.walrus_body_env.specs.walrus_instr.BlockTypes.{picked}
 use Rattle.walrus_body_env.specs.walrus_instr.declared.seq.InstrSeqType.{InstrSeqType}
 use Rattle.walrus_body_env.specs.walrus_instr.declared.seq.InstrSeqType.TheVariants.{Simple, MultiValue}
-use Rattle.walrus_functions_into.specs.walrus_collections.walrus_local_function.walrus_body_locals.wasm_immediates.declared.block_type.BlockType.{BlockType}
-use Rattle.walrus_functions_into.specs.walrus_collections.walrus_local_function.walrus_body_locals.wasm_immediates.declared.block_type.BlockType.TheVariants as blocks
-use Rattle.walrus_functions_into.specs.walrus_collections.walrus_local_function.walrus_body_locals.wasm_immediates.Items.{Types}
+use Rattle.walrus_functions_into.specs.walrus_collections.walrus_local_function.walrus_body_locals.wasm_operators.declared.block_type.BlockType.{BlockType}
+use Rattle.walrus_functions_into.specs.walrus_collections.walrus_local_function.walrus_body_locals.wasm_operators.declared.block_type.BlockType.TheVariants as blocks
+use Rattle.walrus_functions_into.specs.walrus_collections.walrus_local_function.walrus_body_locals.wasm_operators.Items.{Types}
 use Rattle.walrus_functions_into.specs.walrus_collections.walrus_local_function.walrus_function_parser.walrus_body_rules.walrus_pairing.Types.{read_value}
 use Rattle.walrus_functions_into.specs.walrus_collections.walrus_module_items.declared.memory.Memory.{Memory}
 use Rattle.walrus_functions_into.specs.walrus_collections.walrus_local_function.walrus_body_locals.wasm_grammar.Modules as grammar

@@ -8,7 +8,7 @@ use Rattle.walrus_file_bodies.specs.walrus_items_into.walrus_tables_into.walrus_
 use Rattle.walrus_item_names.specs.walrus_module.walrus_module_items.declared.function.Function.{Function}
 use Rattle.walrus_file_bodies.specs.walrus_module_bodies.Steps.{State}
 use Rattle.walrus_file_bodies.specs.walrus_module_bodies.declared.file.FileEnv.{FileEnv}
-use Rattle.walrus_item_names.specs.walrus_module.walrus_body_writer.walrus_pairing.wasm_immediates.wasm_features.declared.WasmFeatures.{WasmFeatures}
+use Rattle.walrus_item_names.specs.walrus_module.walrus_body_writer.walrus_pairing.wasm_operators.wasm_features.declared.WasmFeatures.{WasmFeatures}
 use Rattle.walrus_file_bodies.specs.Ready.{AreReady, bodies_in}
 
 pub ready_over : (s : Sections) (functions : Arena Function) (file : FileEnv) (features : WasmFeatures) (bodies : List FunctionBody) (old : State) → bodies ≡ bodies_in s functions

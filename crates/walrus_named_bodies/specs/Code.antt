@@ -1,6 +1,6 @@
 -- The bodies of a file, read into a module that its sections fill.
 use Rattle.std.specs.Prelude.{◌≡◌, ◌⊎◌, List}
-use Rattle.walrus_item_names.specs.walrus_module.walrus_body_writer.walrus_pairing.wasm_immediates.wasm_features.declared.WasmFeatures.{WasmFeatures}
+use Rattle.walrus_item_names.specs.walrus_module.walrus_body_writer.walrus_pairing.wasm_operators.wasm_features.declared.WasmFeatures.{WasmFeatures}
 use Rattle.walrus_arena.specs.Arena.{Arena}
 use Rattle.walrus_item_names.specs.walrus_module.walrus_body_writer.walrus_body_env.declared.error.BodyError.{BodyError}
 use Rattle.walrus_errors.specs.declared.error.ModuleError.{ModuleError}

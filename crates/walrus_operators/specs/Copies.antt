@@ -3,7 +3,7 @@ use Rattle.std.specs.Prelude.{◌≡◌, ℕ}
 use Rattle.std.specs.declared.alloc.Global.{Global}
 use Rattle.std.specs.declared.vec.Vec.{Vec}
 use Rattle.wasm_operators.specs.wasm_ref_types.declared.value.ValType.{ValType}
-use Rattle.wasm_immediates.specs.declared.clause.Clause.{Clause}
+use Rattle.wasm_operators.specs.declared.clause.Clause.{Clause}
 use Rattle.walrus_operators.specs.declared.immediates.Immediates.{Immediates}
 use Rattle.walrus_operators.specs.declared.immediates.Immediates.TheVariants.{TryTable, BrTable, Select}
 use Rattle.walrus_operators.specs.declared.operator.Operator.{Operator}

@@ -1,7 +1,7 @@
 -- Immediates, item by item.
 use Rattle.std.specs.Prelude.{ℕ, List, [], ◌∷◌}
 use Rattle.wasm_operators.specs.wasm_reader.Floats.{seen_bits32, seen_bits64}
-use Rattle.wasm_immediates.specs.Items.{Types, Functions, Tables, Memories, Tags, Globals, ElementSegments, DataSegments, Locals, Labels, Item, Names, Number, S32, S64, Bits, Byte, Bytes, Heap, Block, Access, ManyLabels, ManyValues, ManyClauses}
+use Rattle.wasm_operators.specs.Items.{Types, Functions, Tables, Memories, Tags, Globals, ElementSegments, DataSegments, Locals, Labels, Item, Names, Number, S32, S64, Bits, Byte, Bytes, Heap, Block, Access, ManyLabels, ManyValues, ManyClauses}
 use Rattle.wasm_operators.specs.declared.entry.Kind.{Kind}
 use Rattle.wasm_operators.specs.declared.entry.Kind.TheVariants as kinds
 use Rattle.walrus_operators.specs.declared.immediates.Immediates.{Immediates}

@@ -1,8 +1,8 @@
 //! What follows an operator's code (Core Specification, binary format: instructions).
 
-use wasm_immediates::ref_types::{HeapType, ValType};
-use wasm_immediates::{BlockType, Clause, MemoryAccess};
 use wasm_operators::reader::{Ieee32, Ieee64};
+use wasm_operators::ref_types::{HeapType, ValType};
+use wasm_operators::{BlockType, Clause, MemoryAccess};
 
 /// The immediates of an operator, by kind. Indices are numbers in the spaces of the module, locals and labels in those of the body;
 /// nothing is tested of them.

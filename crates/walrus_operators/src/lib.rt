@@ -1,4 +1,4 @@
-//! Operators, read one by one (Core Specification, binary format: instructions).
+//! Operators, read one by one, and written in their shortest spelling (Core Specification, binary format: instructions).
 #![tactic(auto)]
 
 // What a call gives; a refusal is handed on. (`?` would convert it, though both are of one type: a call more for each, and longer proofs.)
@@ -11,24 +11,41 @@ macro_rules! got {
     };
 }
 
+// What was written stays, or the caller hands the refusal on.
+macro_rules! put {
+    ($call:expr) => {
+        match $call {
+            Ok(()) => {}
+            Err(error) => return Err(error),
+        }
+    };
+}
+
 mod copies;
 mod immediates;
 pub mod laws;
 mod operator;
 mod read;
 mod reader;
+mod write;
+mod write_types;
+mod writer;
 
 pub use immediates::Immediates;
 pub use operator::Operator;
 pub use reader::{OperatorError, OperatorReader};
+pub use wasm_operators::{write_bits32, write_bits64, write_byte, write_signed, write_unsigned};
+pub use write::{write_access, write_index};
+pub use write_types::{write_block_type, write_value_type};
+pub use writer::{write_code, write_operator};
 
 // Passed on to crates above, which then list this one alone.
 pub mod immediate_forms {
-    pub use wasm_immediates::MemoryAccess;
+    pub use wasm_operators::MemoryAccess;
 
     pub mod reader {
         pub mod features {
-            pub use wasm_immediates::reader::features::WasmFeatures;
+            pub use wasm_operators::reader::features::WasmFeatures;
         }
     }
 }

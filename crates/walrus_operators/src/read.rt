@@ -3,21 +3,20 @@
 ghost use Rattle.std.specs.Prelude.{◌≡◌, IfOk};
 ghost use Rattle.wasm_operators.specs.wasm_reader.Reading.{Reads};
 ghost use Rattle.wasm_operators.specs.wasm_reader.Items.{ReadsBy, ReadsUnlessMemory};
-ghost use Rattle.wasm_immediates.specs.Readings.{items_at};
+ghost use Rattle.wasm_operators.specs.Readings.{items_at};
 ghost use Rattle.wasm_operators.specs.Kinds.{forms, takes_memory};
 ghost use Rattle.walrus_operators.specs.Immediates.{IsOfOne, IsOfTwo, IsRare, items_of, kind_is, one_item, two_items};
 
 use crate::immediates::Immediates;
 use std::alloc::Global;
-use wasm_immediates::ref_types::{HeapType, ValType};
-use wasm_immediates::{BlockType, Clause, read_below, read_zero};
 use wasm_operators::reader::{BinaryReader, FromReader, Result};
-use wasm_operators::{Kind, read_access};
+use wasm_operators::ref_types::{HeapType, ValType};
+use wasm_operators::{BlockType, Clause, Kind, read_access, read_below, read_zero};
 
 // No list is longer than a u32 counts.
 const MOST: usize = 4294967295;
 
-#[tactic(auto, unfolding(wasm_immediates::specs::Readings::items_at, wasm_immediates::specs::Readings::item_at))]
+#[tactic(auto, unfolding(wasm_operators::specs::Readings::items_at, wasm_operators::specs::Readings::item_at))]
 fn read_try_table(alloc: Global, reader: &mut BinaryReader<'_>) -> Result<Immediates>
     ensures items { ReadsUnlessMemory (items_at reader.old.window.features (forms Kind.TryTable)) items_of reader.old reader.new result }
     ensures kind { IfOk result (λ x. kind_is x ≡ Kind.TryTable) }
@@ -27,7 +26,7 @@ fn read_try_table(alloc: Global, reader: &mut BinaryReader<'_>) -> Result<Immedi
     Ok(Immediates::TryTable(ty, clauses))
 }
 
-#[tactic(auto, unfolding(wasm_immediates::specs::Readings::items_at, wasm_immediates::specs::Readings::item_at))]
+#[tactic(auto, unfolding(wasm_operators::specs::Readings::items_at, wasm_operators::specs::Readings::item_at))]
 fn read_branch_table(alloc: Global, reader: &mut BinaryReader<'_>) -> Result<Immediates>
     ensures items { ReadsUnlessMemory (items_at reader.old.window.features (forms Kind.BrTable)) items_of reader.old reader.new result }
     ensures kind { IfOk result (λ x. kind_is x ≡ Kind.BrTable) }
@@ -37,7 +36,7 @@ fn read_branch_table(alloc: Global, reader: &mut BinaryReader<'_>) -> Result<Imm
     Ok(Immediates::BrTable(labels, otherwise))
 }
 
-#[tactic(auto, unfolding(wasm_immediates::specs::Readings::items_at, wasm_immediates::specs::Readings::item_at))]
+#[tactic(auto, unfolding(wasm_operators::specs::Readings::items_at, wasm_operators::specs::Readings::item_at))]
 fn read_select(alloc: Global, reader: &mut BinaryReader<'_>) -> Result<Immediates>
     ensures items { ReadsUnlessMemory (items_at reader.old.window.features (forms Kind.Select)) items_of reader.old reader.new result }
     ensures kind { IfOk result (λ x. kind_is x ≡ Kind.Select) }
@@ -46,7 +45,7 @@ fn read_select(alloc: Global, reader: &mut BinaryReader<'_>) -> Result<Immediate
     Ok(Immediates::Select(types))
 }
 
-#[tactic(auto, unfolding(wasm_immediates::specs::Readings::items_at, wasm_immediates::specs::Readings::item_at))]
+#[tactic(auto, unfolding(wasm_operators::specs::Readings::items_at, wasm_operators::specs::Readings::item_at))]
 fn read_cast(alloc: Global, reader: &mut BinaryReader<'_>) -> Result<Immediates>
     ensures items { Reads (items_at reader.old.window.features (forms Kind.Cast)) items_of reader.old reader.new result }
     ensures kind { IfOk result (λ x. kind_is x ≡ Kind.Cast) }
@@ -58,7 +57,7 @@ fn read_cast(alloc: Global, reader: &mut BinaryReader<'_>) -> Result<Immediates>
     Ok(Immediates::Cast(flags, label, from, to))
 }
 
-#[tactic(auto, unfolding(wasm_immediates::specs::Readings::items_at, wasm_immediates::specs::Readings::item_at))]
+#[tactic(auto, unfolding(wasm_operators::specs::Readings::items_at, wasm_operators::specs::Readings::item_at))]
 fn read_vector(reader: &mut BinaryReader<'_>) -> Result<Immediates>
     ensures items { Reads (items_at reader.old.window.features (forms Kind.Vector)) items_of reader.old reader.new result }
     ensures kind { IfOk result (λ x. kind_is x ≡ Kind.Vector) }
@@ -69,7 +68,7 @@ fn read_vector(reader: &mut BinaryReader<'_>) -> Result<Immediates>
     Ok(Immediates::Vector(vector))
 }
 
-#[tactic(auto, unfolding(wasm_immediates::specs::Readings::items_at, wasm_immediates::specs::Readings::item_at))]
+#[tactic(auto, unfolding(wasm_operators::specs::Readings::items_at, wasm_operators::specs::Readings::item_at))]
 fn read_access_lane(reader: &mut BinaryReader<'_>) -> Result<Immediates>
     ensures items { Reads (items_at reader.old.window.features (forms Kind.AccessLane)) items_of reader.old reader.new result }
     ensures kind { IfOk result (λ x. kind_is x ≡ Kind.AccessLane) }
@@ -123,7 +122,7 @@ fn of_two(kind: Kind, m: u32, n: u32) -> Immediates
 
 // The immediates of a rarer kind. It isn't inlined: what it keeps on the stack is then no part of each read.
 #[inline(never)]
-#[tactic(auto, unfolding(wasm_immediates::specs::Readings::items_at, wasm_immediates::specs::Readings::item_at))]
+#[tactic(auto, unfolding(wasm_operators::specs::Readings::items_at, wasm_operators::specs::Readings::item_at))]
 fn read_rare(kind: Kind, alloc: Global, reader: &mut BinaryReader<'_>) -> Result<Immediates>
     requires { IsRare kind }
     ensures items { ReadsBy (takes_memory kind) (items_at reader.old.window.features (forms kind)) items_of reader.old reader.new result }
@@ -175,7 +174,7 @@ fn read_rare(kind: Kind, alloc: Global, reader: &mut BinaryReader<'_>) -> Result
 
 // The immediates of a kind.
 #[inline(always)]
-#[tactic(auto, unfolding(wasm_immediates::specs::Readings::items_at, wasm_immediates::specs::Readings::item_at))]
+#[tactic(auto, unfolding(wasm_operators::specs::Readings::items_at, wasm_operators::specs::Readings::item_at))]
 pub(crate) fn read_immediates(
     kind: Kind,
     alloc: Global,

@@ -1,6 +1,6 @@
 -- Instructions that name the same: what a family writes of each of them is what is written with the code of its own.
 use Rattle.std.proofs.Common.{ℕ, ◌≡◌, ◌⊎◌, inl, inr, refl}
-use Rattle.walrus_operators.specs.wasm_immediates.Items.{Types, Functions, Tables, Memories, Globals, Locals, ElementSegments, DataSegments}
+use Rattle.walrus_operators.specs.wasm_operators.Items.{Types, Functions, Tables, Memories, Globals, Locals, ElementSegments, DataSegments}
 use Rattle.walrus_codes.specs.walrus_instr.declared.instr.Instr.{Instr}
 use Rattle.walrus_codes.specs.walrus_instr.declared.instr.Instr.TheVariants as instrs
 use Rattle.walrus_pairing.specs.Looks.{Look}

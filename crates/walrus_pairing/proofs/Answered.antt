@@ -4,9 +4,9 @@ use Rattle.std.specs.Option.{is_some, option_map}
 use Rattle.std.proofs.Common.{subst}
 use Rattle.wasm_ref_types.specs.wasm_reader.Floats.{seen_bits32, seen_bits64}
 use Rattle.wasm_ref_types.specs.declared.value.ValType.{ValType as WrittenValue}
-use Rattle.wasm_operator_bytes.specs.wasm_immediates.Items.{Types, Functions, Tables, Memories, Tags, Globals, ElementSegments, DataSegments, Locals}
-use Rattle.wasm_operator_bytes.specs.wasm_operators.declared.entry.Kind.{Kind}
-use Rattle.wasm_operator_bytes.specs.wasm_operators.declared.op_code.OpCode.{OpCode}
+use Rattle.wasm_operators.specs.Items.{Types, Functions, Tables, Memories, Tags, Globals, ElementSegments, DataSegments, Locals}
+use Rattle.wasm_operators.specs.declared.entry.Kind.{Kind}
+use Rattle.wasm_operators.specs.declared.op_code.OpCode.{OpCode}
 use Rattle.walrus_instr.specs.declared.instr.Value.TheVariants as constants
 use Rattle.walrus_instr.specs.declared.instr.Instr.{Instr}
 use Rattle.walrus_instr.specs.declared.instr.Instr.TheVariants as instrs

@@ -3,8 +3,8 @@ use Rattle.std.specs.Prelude.{ℕ, ◌≡◌, ◌==◌, ◌&&◌, nat_lt, not, B
 use Rattle.std.specs.Option.{is_some}
 use Rattle.std.proofs.Common.{inl, inr}
 use Rattle.std.proofs.lemmas.Bool.{cases_Bool, and_parts, not-true, eqb-true}
-use Rattle.wasm_operator_bytes.specs.wasm_operators.declared.op_code.OpCode.{OpCode}
-use Rattle.wasm_operator_bytes.specs.wasm_operators.Operators.{op_code}
+use Rattle.wasm_operators.specs.declared.op_code.OpCode.{OpCode}
+use Rattle.wasm_operators.specs.Operators.{op_code}
 use Rattle.walrus_instr.specs.declared.operators.UnaryOp.{UnaryOp}
 use Rattle.walrus_instr.specs.declared.operators.BinaryOp.{BinaryOp}
 use Rattle.walrus_instr.specs.declared.operators.TernaryOp.{TernaryOp}

@@ -1,7 +1,7 @@
 -- What a look-up gives, as the readings have it: the id, or the space in which the index names nothing.
 use Rattle.std.proofs.Common.{ℕ, ◌≡◌, Option, Some, None, Result, Ok, Err, sym, ◌∙◌}
 use Rattle.std.specs.Option.{ok_or}
-use Rattle.walrus_operators.specs.wasm_immediates.Items.{Space as Named}
+use Rattle.walrus_operators.specs.wasm_operators.Items.{Space as Named}
 use Rattle.walrus_index_maps.specs.Maps.{Ids}
 use Rattle.walrus_index_maps.specs.declared.indices_to_ids.UnknownIndex.{UnknownIndex}
 use Rattle.walrus_index_maps.specs.declared.space.Space.{Space}

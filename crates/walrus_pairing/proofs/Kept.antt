@@ -3,15 +3,15 @@ use Rattle.std.specs.Prelude.{ℕ, ◌<◌, ◌≡◌, ◌==◌, ◌&&◌, Bool,
 use Rattle.std.specs.List.{AllByRecursion}
 use Rattle.std.proofs.Common.{sym, subst, ◌∙◌, inl, inr}
 use Rattle.std.proofs.lemmas.Bool.{cases_Bool, and_parts, eqb-true}
-use Rattle.wasm_operator_bytes.specs.wasm_operators.wasm_features.declared.WasmFeatures.{WasmFeatures}
-use Rattle.wasm_operator_bytes.specs.wasm_immediates.Items.{Item, Bytes, ManyValues, Form, index, number, s32, s64, bits, run, any_byte, below, zero_byte, heap, block, access, labels, values, clauses}
-use Rattle.wasm_operator_bytes.specs.wasm_operators.declared.entry.Entry.{Entry}
-use Rattle.wasm_operator_bytes.specs.wasm_operators.declared.entry.Kind.{Kind}
-use Rattle.wasm_operator_bytes.specs.wasm_operators.declared.op_code.OpCode.{OpCode}
-use Rattle.wasm_operator_bytes.specs.wasm_operators.Table.{find_code, structure_rows, call_rows, plain_rows, fb_rows, fc_rows, fd_rows, fe_rows}
-use Rattle.wasm_operator_bytes.specs.wasm_operators.Kinds.{forms}
-use Rattle.wasm_operator_bytes.specs.wasm_operators.Operators.{is_on, kind_of, Seen}
-use Rattle.wasm_operator_bytes.specs.Ranges.{ItemFits, ItemsFit, OperatorFits}
+use Rattle.wasm_operators.specs.wasm_features.declared.WasmFeatures.{WasmFeatures}
+use Rattle.wasm_operators.specs.Items.{Item, Bytes, ManyValues, Form, index, number, s32, s64, bits, run, any_byte, below, zero_byte, heap, block, access, labels, values, clauses}
+use Rattle.wasm_operators.specs.declared.entry.Entry.{Entry}
+use Rattle.wasm_operators.specs.declared.entry.Kind.{Kind}
+use Rattle.wasm_operators.specs.declared.op_code.OpCode.{OpCode}
+use Rattle.wasm_operators.specs.Table.{find_code, structure_rows, call_rows, plain_rows, fb_rows, fc_rows, fd_rows, fe_rows}
+use Rattle.wasm_operators.specs.Kinds.{forms}
+use Rattle.wasm_operators.specs.Operators.{is_on, kind_of, Seen}
+use Rattle.wasm_operators.specs.Ranges.{ItemFits, ItemsFit, OperatorFits}
 use Rattle.walrus_codes.specs.Runs.{byte}
 use Rattle.walrus_pairing.proofs.Rows.{TablePasses, table_holds}
 

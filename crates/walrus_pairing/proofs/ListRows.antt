@@ -2,9 +2,9 @@
 use Rattle.std.proofs.Common.{◌≡◌, ◌≤◌, ◌∙◌, ℕ, ◌==◌, ◌&&◌, ◌||◌, Bool, true, false, cond, List, [], ◌∷◌, Option, Some, None, inl, inr, refl, sym, ap, subst, nat_le, nat_lt, arith}
 use Rattle.std.specs.Option.{option_map_or}
 use Rattle.std.proofs.lemmas.Bool.{cases_Bool, or_cases, and_parts, false≢true, eqb-true, leb-true}
-use Rattle.wasm_operator_bytes.specs.wasm_operators.declared.entry.Entry.{Entry}
-use Rattle.wasm_operator_bytes.specs.wasm_operators.Kinds.{takes_memory}
-use Rattle.wasm_operator_bytes.specs.wasm_operators.Table.{Row, find, find_byte, structure_rows, call_rows, plain_rows, fb_rows, fc_rows, fd_rows, fe_rows}
+use Rattle.wasm_operators.specs.declared.entry.Entry.{Entry}
+use Rattle.wasm_operators.specs.Kinds.{takes_memory}
+use Rattle.wasm_operators.specs.Table.{Row, find, find_byte, structure_rows, call_rows, plain_rows, fb_rows, fc_rows, fd_rows, fe_rows}
 use Rattle.walrus_pairing.specs.Lists.{holds_list, is_one_of_three, ListsAreThree}
 
 lists : Option Entry → Bool

@@ -3,8 +3,8 @@ use Rattle.std.specs.Prelude.{ℕ, ◌≡◌, ◌==◌, List, [], ◌∷◌, Opt
 use Rattle.std.specs.Option.{option_map}
 use Rattle.std.proofs.Common.{ap, subst, ◌∙◌, inl, inr}
 use Rattle.std.proofs.lemmas.Bool.{cases_Bool}
-use Rattle.wasm_operator_bytes.specs.wasm_immediates.Items.{Item}
-use Rattle.wasm_operator_bytes.specs.wasm_operators.declared.op_code.OpCode.{OpCode}
+use Rattle.wasm_operators.specs.Items.{Item}
+use Rattle.wasm_operators.specs.declared.op_code.OpCode.{OpCode}
 use Rattle.walrus_instr.specs.declared.instr.Instr.{Instr}
 use Rattle.walrus_instr.specs.declared.instr.Instr.TheVariants as instrs
 use Rattle.walrus_codes.specs.Runs.{in_runs, byte}

@@ -3,7 +3,7 @@ use Rattle.std.specs.Prelude.{ℕ, ℤ, pos, ◌<◌, ◌^◌, ◌≡◌, ◌||�
 use Rattle.std.specs.Option.{is_some, option_map}
 use Rattle.std.proofs.Common.{ap, sym, subst, ◌∙◌}
 use Rattle.std.proofs.lemmas.Bool.{lt-ltb}
-use Rattle.wasm_operator_bytes.specs.wasm_operators.wasm_features.declared.WasmFeatures.{WasmFeatures}
+use Rattle.wasm_operators.specs.wasm_features.declared.WasmFeatures.{WasmFeatures}
 use Rattle.wasm_ref_types.specs.declared.heap.AbstractHeapType.{AbstractHeapType as WrittenAbstract}
 use Rattle.wasm_ref_types.specs.declared.heap.AbstractHeapType.TheVariants as abstracts
 use Rattle.wasm_ref_types.specs.declared.heap.HeapType.{HeapType as WrittenHeap}
@@ -11,16 +11,16 @@ use Rattle.wasm_ref_types.specs.declared.heap.HeapType.TheVariants.{Abstract as 
 use Rattle.wasm_ref_types.specs.declared.index.UnpackedIndex.TheVariants.{Module, RecGroup, Id}
 use Rattle.wasm_ref_types.specs.declared.value.ValType.{ValType as WrittenValue}
 use Rattle.wasm_ref_types.specs.declared.value.ValType.TheVariants.{I32 as WI32, I64 as WI64, F32 as WF32, F64 as WF64, V128 as WV128, Ref as WRef}
-use Rattle.wasm_operator_bytes.specs.wasm_immediates.declared.memory_access.MemoryAccess.{MemoryAccess}
-use Rattle.wasm_operator_bytes.specs.wasm_immediates.Items.{Space, Types, Functions, Tables, Memories, Tags, Globals, ElementSegments, DataSegments, Locals, Labels, Item, Names, Number, S32, S64, Bits, Byte, Bytes, Heap, Access, ManyValues, Form, index, number, s32, s64, bits, run, any_byte, zero_byte, heap, access, values}
-use Rattle.wasm_operator_bytes.specs.wasm_operators.declared.entry.Entry.{Entry}
-use Rattle.wasm_operator_bytes.specs.wasm_operators.declared.entry.Kind.{Kind}
-use Rattle.wasm_operator_bytes.specs.wasm_operators.declared.entry.Kind.TheVariants as kinds
-use Rattle.wasm_operator_bytes.specs.wasm_operators.declared.op_code.OpCode.{OpCode}
-use Rattle.wasm_operator_bytes.specs.wasm_operators.Table.{find_code, structure_rows, call_rows, plain_rows, fb_rows, fc_rows, fd_rows, fe_rows}
-use Rattle.wasm_operator_bytes.specs.wasm_operators.Kinds.{forms}
-use Rattle.wasm_operator_bytes.specs.wasm_operators.Operators.{op_code}
-use Rattle.wasm_operator_bytes.specs.Ranges.{ItemFits, ItemsFit}
+use Rattle.wasm_operators.specs.declared.memory_access.MemoryAccess.{MemoryAccess}
+use Rattle.wasm_operators.specs.Items.{Space, Types, Functions, Tables, Memories, Tags, Globals, ElementSegments, DataSegments, Locals, Labels, Item, Names, Number, S32, S64, Bits, Byte, Bytes, Heap, Access, ManyValues, Form, index, number, s32, s64, bits, run, any_byte, zero_byte, heap, access, values}
+use Rattle.wasm_operators.specs.declared.entry.Entry.{Entry}
+use Rattle.wasm_operators.specs.declared.entry.Kind.{Kind}
+use Rattle.wasm_operators.specs.declared.entry.Kind.TheVariants as kinds
+use Rattle.wasm_operators.specs.declared.op_code.OpCode.{OpCode}
+use Rattle.wasm_operators.specs.Table.{find_code, structure_rows, call_rows, plain_rows, fb_rows, fc_rows, fd_rows, fe_rows}
+use Rattle.wasm_operators.specs.Kinds.{forms}
+use Rattle.wasm_operators.specs.Operators.{op_code}
+use Rattle.wasm_operators.specs.Ranges.{ItemFits, ItemsFit}
 use Rattle.walrus_forms.specs.declared.value.AbstractHeapType.TheVariants as types
 use Rattle.walrus_forms.specs.declared.value.HeapType.{HeapType}
 use Rattle.walrus_forms.specs.declared.value.HeapType.TheVariants.{Abstract, Concrete, Exact}

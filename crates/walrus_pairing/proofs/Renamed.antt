@@ -7,13 +7,13 @@ use Rattle.std.proofs.Common.{ap, sym, subst, ◌∙◌, inl, inr}
 use Rattle.std.proofs.lemmas.Bool.{cases_Bool, and_parts, eqb-true}
 use Rattle.wasm_ref_types.specs.declared.heap.HeapType.{HeapType as WrittenHeap}
 use Rattle.wasm_ref_types.specs.declared.value.ValType.{ValType as WrittenValue}
-use Rattle.wasm_operator_bytes.specs.wasm_immediates.declared.memory_access.MemoryAccess.{MemoryAccess}
-use Rattle.wasm_operator_bytes.specs.wasm_immediates.Items.{Space, Types, Functions, Tables, Memories, Tags, Globals, ElementSegments, DataSegments, Locals, Labels, Item, Names, Number, S32, S64, Bits, Byte, Bytes, Heap, Block, Access, ManyLabels, ManyValues, ManyClauses}
-use Rattle.wasm_operator_bytes.specs.wasm_operators.declared.op_code.OpCode.{OpCode}
-use Rattle.wasm_operator_bytes.specs.wasm_operators.Operators.{Seen}
-use Rattle.wasm_operator_bytes.specs.Names.{Renaming, renamed_heap, renamed_value, renamed_item, renamed_operator}
-use Rattle.wasm_operator_bytes.specs.NameLaws.{same}
-use Rattle.wasm_operator_bytes.specs.Renamed.{same_is_same}
+use Rattle.wasm_operators.specs.declared.memory_access.MemoryAccess.{MemoryAccess}
+use Rattle.wasm_operators.specs.Items.{Space, Types, Functions, Tables, Memories, Tags, Globals, ElementSegments, DataSegments, Locals, Labels, Item, Names, Number, S32, S64, Bits, Byte, Bytes, Heap, Block, Access, ManyLabels, ManyValues, ManyClauses}
+use Rattle.wasm_operators.specs.declared.op_code.OpCode.{OpCode}
+use Rattle.wasm_operators.specs.Operators.{Seen}
+use Rattle.wasm_operators.specs.Names.{Renaming, renamed_heap, renamed_value, renamed_item, renamed_operator}
+use Rattle.wasm_operators.specs.NameLaws.{same}
+use Rattle.wasm_operators.specs.Renamed.{same_is_same}
 use Rattle.walrus_instr.specs.declared.instr.Value.TheVariants as constants
 use Rattle.walrus_instr.specs.declared.instr.Instr.{Instr}
 use Rattle.walrus_instr.specs.declared.instr.Instr.TheVariants as instrs

@@ -4,7 +4,7 @@ use Rattle.walrus_operators.specs.declared.immediates.Immediates.{Immediates}
 use Rattle.walrus_operators.specs.declared.immediates.Immediates.TheVariants as imm
 use Rattle.walrus_operators.specs.declared.operator.Operator.{Operator}
 use Rattle.walrus_operators.specs.Immediates.{items_of}
-use Rattle.walrus_operators.specs.wasm_immediates.Items.{Space, Types, Memories, Item, Byte}
+use Rattle.walrus_operators.specs.wasm_operators.Items.{Space, Types, Memories, Item, Byte}
 use Rattle.walrus_operators.specs.wasm_operators.declared.op_code.OpCode.{OpCode}
 use Rattle.walrus_operators.specs.wasm_operators.Operators.{Seen}
 use Rattle.walrus_forms.specs.declared.value.HeapType.{HeapType}

@@ -2,8 +2,8 @@
 use Rattle.std.specs.Prelude.{ℕ, zero, suc, ◌+◌, ◌-◌, ◌<◌, ◌≤◌, ◌≡◌, ◌==◌, ◌&&◌, nat_le, nat_lt, Bool, true, List, [], ◌∷◌, Some, None, if◌then◌else◌}
 use Rattle.std.proofs.Common.{sym, subst, arith, inl, inr}
 use Rattle.std.proofs.lemmas.Bool.{cases_Bool, cases_lt, and_parts, leb-true, eqb-true}
-use Rattle.wasm_operator_bytes.specs.wasm_operators.declared.entry.Entry.{Entry}
-use Rattle.wasm_operator_bytes.specs.wasm_operators.Table.{Row, find, structure_rows, call_rows, plain_rows, fb_rows, fc_rows, fd_rows, fe_rows, find_byte, find_code}
+use Rattle.wasm_operators.specs.declared.entry.Entry.{Entry}
+use Rattle.wasm_operators.specs.Table.{Row, find, structure_rows, call_rows, plain_rows, fb_rows, fc_rows, fd_rows, fe_rows, find_byte, find_code}
 
 -- so many numbers from n on pass
 abbrev pub from : (ℕ → Bool) → ℕ → ℕ → Bool

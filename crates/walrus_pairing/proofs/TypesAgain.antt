@@ -8,8 +8,8 @@ use Rattle.wasm_ref_types.specs.declared.heap.HeapType.TheVariants.{Abstract as 
 use Rattle.wasm_ref_types.specs.declared.index.UnpackedIndex.TheVariants.{Module, RecGroup, Id}
 use Rattle.wasm_ref_types.specs.declared.value.ValType.{ValType as WrittenValue}
 use Rattle.wasm_ref_types.specs.declared.value.ValType.TheVariants.{I32 as WI32, I64 as WI64, F32 as WF32, F64 as WF64, V128 as WV128, Ref as WRef}
-use Rattle.wasm_operator_bytes.specs.wasm_immediates.Items.{Types}
-use Rattle.wasm_operator_bytes.specs.Names.{Renaming, renamed_heap, renamed_value}
+use Rattle.wasm_operators.specs.Items.{Types}
+use Rattle.wasm_operators.specs.Names.{Renaming, renamed_heap, renamed_value}
 use Rattle.walrus_forms.specs.declared.value.HeapType.{HeapType}
 use Rattle.walrus_forms.specs.declared.value.HeapType.TheVariants.{Abstract}
 use Rattle.walrus_forms.specs.declared.value.ValType.{ValType}

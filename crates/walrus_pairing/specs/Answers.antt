@@ -3,7 +3,7 @@ use Rattle.std.specs.Prelude.{ℕ, ◌≡◌, [], ◌∷◌, Option, Some, None,
 use Rattle.wasm_ref_types.specs.Heaps.{HasSmallIndex}
 use Rattle.wasm_ref_types.specs.declared.value.ValType.{ValType as WrittenValue}
 use Rattle.wasm_ref_types.specs.declared.value.ValType.TheVariants as written
-use Rattle.walrus_operators.specs.wasm_immediates.Items.{Types, ManyValues}
+use Rattle.walrus_operators.specs.wasm_operators.Items.{Types, ManyValues}
 use Rattle.walrus_forms.specs.declared.value.ValType.{ValType}
 use Rattle.walrus_codes.specs.walrus_instr.declared.instr.Instr.{Instr}
 use Rattle.walrus_codes.specs.walrus_instr.declared.instr.Instr.TheVariants.{Select}

@@ -1,7 +1,7 @@
 -- Pairing there and back.
 use Rattle.std.specs.Prelude.{ℕ, ◌≡◌, ◌<◌, ◌^◌, true, Some, Ok}
-use Rattle.wasm_operator_bytes.specs.wasm_immediates.Items.{Space}
-use Rattle.wasm_operator_bytes.specs.wasm_operators.Operators.{Seen}
+use Rattle.wasm_operators.specs.Items.{Space}
+use Rattle.wasm_operators.specs.Operators.{Seen}
 use Rattle.walrus_instr.specs.declared.memory.MemArg.{MemArg}
 use Rattle.walrus_instr.specs.declared.instr.Instr.{Instr}
 use Rattle.walrus_instr.specs.declared.instr.Instr.TheVariants as instrs

@@ -23,5 +23,4 @@ pub use Rattle.walrus_index_maps.specs as walrus_index_maps
 pub use Rattle.walrus_codes.specs.walrus_instr as walrus_instr
 pub use Rattle.walrus_codes.specs.walrus_items as walrus_items
 pub use Rattle.walrus_operators.specs as walrus_operators
-pub use Rattle.walrus_operators.specs.wasm_immediates as wasm_immediates
-pub use Rattle.wasm_operator_bytes.specs as wasm_operator_bytes
+pub use Rattle.walrus_operators.specs.wasm_operators as wasm_operators

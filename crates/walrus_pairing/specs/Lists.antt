@@ -1,9 +1,9 @@
 -- Which operators hold lists (Core Specification, binary format: control and parametric instructions).
 use Rattle.std.specs.Prelude.{ℕ, ◌≡◌, ◌==◌, ◌&&◌, ◌||◌, Bool, false}
 use Rattle.std.specs.Option.{option_map_or}
-use Rattle.wasm_operator_bytes.specs.wasm_operators.declared.entry.Entry.{Entry}
-use Rattle.wasm_operator_bytes.specs.wasm_operators.Kinds.{takes_memory}
-use Rattle.wasm_operator_bytes.specs.wasm_operators.Table.{find_code}
+use Rattle.wasm_operators.specs.declared.entry.Entry.{Entry}
+use Rattle.wasm_operators.specs.Kinds.{takes_memory}
+use Rattle.wasm_operators.specs.Table.{find_code}
 
 -- whether the code, a byte alone where the prefix is 0, is that of an operator with a list among its immediates
 abbrev pub holds_list : ℕ → ℕ → Bool

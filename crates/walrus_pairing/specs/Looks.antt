@@ -1,7 +1,7 @@
 -- Look-ups of names, and answers that may be refusals.
 use Rattle.std.specs.Prelude.{ℕ, Option, None, Result, Ok, Err, slice_get}
 use Rattle.std.specs.Option.{ok_or}
-use Rattle.walrus_operators.specs.wasm_immediates.Items as items
+use Rattle.walrus_operators.specs.wasm_operators.Items as items
 use Rattle.walrus_index_maps.specs.Maps.{Ids, Indices}
 use Rattle.walrus_index_maps.specs.declared.space.Space.{Space}
 use Rattle.walrus_index_maps.specs.declared.space.Space.TheVariants as spaces

@@ -9,14 +9,14 @@ use Rattle.wasm_ref_types.specs.declared.index.UnpackedIndex.{UnpackedIndex}
 use Rattle.wasm_ref_types.specs.declared.index.UnpackedIndex.TheVariants.{Module, RecGroup, Id}
 use Rattle.wasm_ref_types.specs.declared.value.ValType.{ValType}
 use Rattle.wasm_ref_types.specs.declared.value.ValType.TheVariants.{Ref}
-use Rattle.wasm_operator_bytes.specs.wasm_immediates.Items.{Space, Types, Memories, Item, Names, Heap, Access, ManyValues}
-use Rattle.wasm_operator_bytes.specs.wasm_operators.declared.entry.Kind.{Kind}
-use Rattle.wasm_operator_bytes.specs.wasm_operators.declared.entry.Kind.TheVariants as kinds
-use Rattle.wasm_operator_bytes.specs.wasm_operators.declared.entry.Flow.{Flow}
-use Rattle.wasm_operator_bytes.specs.wasm_operators.declared.entry.Flow.TheVariants as flows
-use Rattle.wasm_operator_bytes.specs.wasm_operators.declared.entry.Entry.{Entry}
-use Rattle.wasm_operator_bytes.specs.wasm_operators.Table.{find_code}
-use Rattle.wasm_operator_bytes.specs.wasm_operators.Operators.{Seen}
+use Rattle.wasm_operators.specs.Items.{Space, Types, Memories, Item, Names, Heap, Access, ManyValues}
+use Rattle.wasm_operators.specs.declared.entry.Kind.{Kind}
+use Rattle.wasm_operators.specs.declared.entry.Kind.TheVariants as kinds
+use Rattle.wasm_operators.specs.declared.entry.Flow.{Flow}
+use Rattle.wasm_operators.specs.declared.entry.Flow.TheVariants as flows
+use Rattle.wasm_operators.specs.declared.entry.Entry.{Entry}
+use Rattle.wasm_operators.specs.Table.{find_code}
+use Rattle.wasm_operators.specs.Operators.{Seen}
 use Rattle.walrus_pairing.specs.Looks.{Look}
 
 -- ---- which operators are instructions by themselves

@@ -1,8 +1,8 @@
 -- The operator of an instruction under a map, and under none.
 use Rattle.std.specs.Prelude.{ℕ, ◌≡◌, Some, Ok}
-use Rattle.wasm_operator_bytes.specs.wasm_immediates.Items.{Space}
-use Rattle.wasm_operator_bytes.specs.wasm_operators.Operators.{Seen}
-use Rattle.wasm_operator_bytes.specs.Names.{Renaming, renamed_operator}
+use Rattle.wasm_operators.specs.Items.{Space}
+use Rattle.wasm_operators.specs.Operators.{Seen}
+use Rattle.wasm_operators.specs.Names.{Renaming, renamed_operator}
 use Rattle.walrus_instr.specs.declared.instr.Instr.{Instr}
 use Rattle.walrus_pairing.specs.Looks.{Look}
 use Rattle.walrus_pairing.specs.Write.{operator_at}

@@ -5,9 +5,9 @@ use Rattle.wasm_ref_types.specs.declared.heap.HeapType.{HeapType as WrittenHeap}
 use Rattle.wasm_ref_types.specs.declared.value.ValType.{ValType as WrittenValue}
 use Rattle.wasm_ref_types.specs.declared.value.ValType.TheVariants.{Ref as WRef, I32 as WI32, I64 as WI64, F32 as WF32, F64 as WF64, V128 as WV128}
 use Rattle.wasm_ref_types.specs.Reference.{reference}
-use Rattle.wasm_operator_bytes.specs.wasm_immediates.Items.{Types, Functions, Tables, Memories, Tags, Globals, ElementSegments, DataSegments, Locals, Item, Names, Number, S32, S64, Bits, Byte, Bytes, Heap, Access, ManyValues, Space}
-use Rattle.wasm_operator_bytes.specs.wasm_operators.declared.op_code.OpCode.{OpCode}
-use Rattle.wasm_operator_bytes.specs.wasm_operators.Operators.{Seen}
+use Rattle.wasm_operators.specs.Items.{Types, Functions, Tables, Memories, Tags, Globals, ElementSegments, DataSegments, Locals, Item, Names, Number, S32, S64, Bits, Byte, Bytes, Heap, Access, ManyValues, Space}
+use Rattle.wasm_operators.specs.declared.op_code.OpCode.{OpCode}
+use Rattle.wasm_operators.specs.Operators.{Seen}
 use Rattle.walrus_forms.specs.declared.value.HeapType.{HeapType}
 use Rattle.walrus_forms.specs.declared.value.HeapType.TheVariants.{Abstract, Concrete, Exact}
 use Rattle.walrus_forms.specs.declared.value.ValType.{ValType}
@@ -27,7 +27,7 @@ use Rattle.walrus_pairing.specs.Write.{seen_of, op, either, of_code, bare_code, 
 use Rattle.walrus_pairing.specs.Back.{some_is, ok_is}
 use Rattle.walrus_pairing.specs.Together.{either_is}
 use Rattle.std.specs.Prelude.{ℕ, ◌≡◌, List, [], ◌∷◌, map, Option, Some, None, Ok, Err, if◌then◌else◌, refl, false}
-use Rattle.wasm_operator_bytes.specs.Names.{Renaming, renamed_heap, renamed_value, renamed_item}
+use Rattle.wasm_operators.specs.Names.{Renaming, renamed_heap, renamed_value, renamed_item}
 use Rattle.walrus_pairing.specs.Sends.{Sends, IsSent, OperatorsAreSent}
 use Rattle.walrus_pairing.specs.Laws.{all}
 use Rattle.wasm_ref_types.specs.declared.heap.HeapType.TheVariants.{Abstract as WAbstract, Concrete as WConcrete, Exact as WExact}

@@ -1,7 +1,7 @@
 -- What the rarer operators name, alone and in pairs.
 use Rattle.std.specs.Prelude.{ℕ, [], ◌∷◌, Option, Ok, if◌then◌else◌}
 use Rattle.std.specs.Option.{ok_or}
-use Rattle.walrus_operators.specs.wasm_immediates.Items as items
+use Rattle.walrus_operators.specs.wasm_operators.Items as items
 use Rattle.walrus_operators.specs.wasm_operators.Operators.{Seen}
 use Rattle.walrus_operators.specs.declared.immediates.Immediates.{Immediates}
 use Rattle.walrus_operators.specs.declared.immediates.Immediates.TheVariants as imm

@@ -2,8 +2,8 @@
 -- format: instructions; the proposals on threads and wide arithmetic). Instructions that hold sequences or labels have none here.
 use Rattle.std.specs.Prelude.{ℕ, nat_le, Bool, List, [], ◌∷◌, Option, Some, None, Ok, Err, if◌then◌else◌}
 use Rattle.std.specs.Int.{w32, w128, trailing_zeros, to_le_bytes}
-use Rattle.walrus_operators.specs.wasm_immediates.declared.memory_access.MemoryAccess.{MemoryAccess}
-use Rattle.walrus_operators.specs.wasm_immediates.Items.{Space, Types, Functions, Tables, Memories, Tags, Globals, ElementSegments, DataSegments, Locals, Item, Names, Number, S32, S64, Bits, Byte, Bytes, Heap, Access, ManyValues}
+use Rattle.walrus_operators.specs.wasm_operators.declared.memory_access.MemoryAccess.{MemoryAccess}
+use Rattle.walrus_operators.specs.wasm_operators.Items.{Space, Types, Functions, Tables, Memories, Tags, Globals, ElementSegments, DataSegments, Locals, Item, Names, Number, S32, S64, Bits, Byte, Bytes, Heap, Access, ManyValues}
 use Rattle.walrus_operators.specs.wasm_operators.declared.op_code.OpCode.{OpCode}
 use Rattle.walrus_operators.specs.wasm_operators.Operators.{Seen}
 use Rattle.walrus_forms.specs.declared.value.HeapType.{HeapType}

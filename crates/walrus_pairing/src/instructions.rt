@@ -3,7 +3,7 @@ ghost use Rattle.std.specs.Prelude.{◌≡◌, [], ◌∷◌, None, option_map};
 ghost use Rattle.walrus_codes.specs.walrus_instr.declared.instr.Instr.TheVariants as instrs;
 ghost use Rattle.walrus_codes.specs.walrus_instr.declared.instr.Value.TheVariants as constants;
 ghost use Rattle.walrus_codes.specs.Ternary.{ternary_at};
-ghost use Rattle.walrus_operators.specs.wasm_immediates.Items.{DataSegments, ElementSegments, Tables, Types};
+ghost use Rattle.walrus_operators.specs.wasm_operators.Items.{DataSegments, ElementSegments, Tables, Types};
 ghost use Rattle.walrus_pairing.specs.Read as read;
 ghost use Rattle.walrus_pairing.specs.Spaces.{first_of, second_of, space};
 

@@ -1,7 +1,7 @@
 //! Instructions of a code and of immediates that name something: what they name is looked up, then the code is.
 ghost use Rattle.std.specs.Prelude.{◌≡◌};
 ghost use Rattle.std.specs.Option.{ok_or};
-ghost use Rattle.walrus_operators.specs.wasm_immediates.Items.{Access, Byte, Functions, Globals, Heap, Locals, Names, Number, Types};
+ghost use Rattle.walrus_operators.specs.wasm_operators.Items.{Access, Byte, Functions, Globals, Heap, Locals, Names, Number, Types};
 ghost use Rattle.walrus_index_maps.specs.Views.{ids};
 ghost use Rattle.walrus_pairing.specs.Looks.{id_of, word};
 ghost use Rattle.walrus_pairing.specs.Read.{pair_at, single_at};

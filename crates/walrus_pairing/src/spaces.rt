@@ -1,7 +1,7 @@
 //! What the rarer operators name, alone and in pairs.
 ghost use Rattle.std.specs.Prelude.{◌≡◌, [], ◌∷◌};
 ghost use Rattle.walrus_operators.specs.Immediates.{items_of};
-ghost use Rattle.walrus_operators.specs.wasm_immediates.Items.{Names};
+ghost use Rattle.walrus_operators.specs.wasm_operators.Items.{Names};
 ghost use Rattle.walrus_pairing.specs.Looks.{word};
 ghost use Rattle.walrus_pairing.specs.Spaces as spaces;
 

@@ -1,6 +1,6 @@
 //! Operators of a code and of immediates that name ids.
 ghost use Rattle.std.specs.Prelude.{◌≡◌, None, Ok, Some};
-ghost use Rattle.walrus_operators.specs.wasm_immediates.Items.{Types, Functions, Globals, Locals};
+ghost use Rattle.walrus_operators.specs.wasm_operators.Items.{Types, Functions, Globals, Locals};
 ghost use Rattle.walrus_index_maps.specs.Views.{indices};
 ghost use Rattle.walrus_pairing.specs.Looks.{number_of};
 ghost use Rattle.walrus_pairing.specs.Seen.{as_seen};

@@ -1,7 +1,7 @@
 -- Faults of sections and of bodies are those of the file.
 use Rattle.std.specs.Prelude.{ℕ, ◌≡◌, List, Option, Some, None, refl}
 use Rattle.std.proofs.Common.{ap, sym, ◌∙◌, inl, inr}
-use Rattle.walrus_named_bodies.specs.walrus_item_names.walrus_module.walrus_body_writer.walrus_pairing.wasm_immediates.wasm_features.declared.WasmFeatures.{WasmFeatures}
+use Rattle.walrus_named_bodies.specs.walrus_item_names.walrus_module.walrus_body_writer.walrus_pairing.wasm_operators.wasm_features.declared.WasmFeatures.{WasmFeatures}
 use Rattle.walrus_named_bodies.specs.walrus_item_names.walrus_module.walrus_local_function.walrus_body_locals.walrus_body_nesting.wasm_formats.Stops.{Trouble, Read, Header, SectionOrder, SectionSize, Count, Index, TypeForm, ConstExpr, OffsetType, Nesting, Position, Operator, Unsupported, DuplicateExport, Bounds, Limit}
 use Rattle.walrus_named_bodies.specs.walrus_file_bodies.walrus_items_into.wasm_module_rules.wasm_modules.Modules.{IsShort}
 use Rattle.walrus_named_bodies.specs.walrus_item_names.walrus_module.walrus_body_writer.walrus_body_env.declared.error.BodyError.{BodyError}

@@ -2,14 +2,14 @@
 use Rattle.std.specs.Prelude.{ℕ, ◌≡◌, Option, Some, None, Ok, Err, refl}
 use Rattle.std.specs.Option.{option_map}
 use Rattle.std.proofs.Common.{ap, sym, ◌∙◌}
-use Rattle.walrus_parsed_items.specs.walrus_body_trees.walrus_pairing.wasm_immediates.Items.{Types}
-use Rattle.walrus_parsed_items.specs.walrus_body_trees.walrus_pairing.wasm_immediates.declared.block_type.BlockType.{BlockType}
-use Rattle.walrus_parsed_items.specs.walrus_body_trees.walrus_pairing.wasm_immediates.declared.block_type.BlockType.TheVariants as blocks
-use Rattle.walrus_parsed_items.specs.walrus_body_trees.walrus_body_nesting.wasm_body_grammar.wasm_operator_bytes.Names.{Renaming, renamed_block, renamed_value}
-use Rattle.walrus_parsed_items.specs.walrus_body_trees.walrus_body_nesting.wasm_body_grammar.wasm_operator_bytes.wasm_ref_types.Reference.{reference}
-use Rattle.walrus_parsed_items.specs.walrus_body_trees.walrus_body_nesting.wasm_body_grammar.wasm_operator_bytes.wasm_ref_types.declared.heap.HeapType.{HeapType as WrittenHeap}
-use Rattle.walrus_parsed_items.specs.walrus_body_trees.walrus_body_nesting.wasm_body_grammar.wasm_operator_bytes.wasm_ref_types.declared.value.ValType.{ValType as WrittenValue}
-use Rattle.walrus_parsed_items.specs.walrus_body_trees.walrus_body_nesting.wasm_body_grammar.wasm_operator_bytes.wasm_ref_types.declared.value.ValType.TheVariants as values
+use Rattle.walrus_parsed_items.specs.walrus_body_trees.walrus_pairing.wasm_operators.Items.{Types}
+use Rattle.walrus_parsed_items.specs.walrus_body_trees.walrus_pairing.wasm_operators.declared.block_type.BlockType.{BlockType}
+use Rattle.walrus_parsed_items.specs.walrus_body_trees.walrus_pairing.wasm_operators.declared.block_type.BlockType.TheVariants as blocks
+use Rattle.walrus_parsed_items.specs.walrus_body_trees.walrus_body_nesting.wasm_body_grammar.wasm_operators.Names.{Renaming, renamed_block, renamed_value}
+use Rattle.walrus_parsed_items.specs.walrus_body_trees.walrus_body_nesting.wasm_body_grammar.wasm_operators.wasm_ref_types.Reference.{reference}
+use Rattle.walrus_parsed_items.specs.walrus_body_trees.walrus_body_nesting.wasm_body_grammar.wasm_operators.wasm_ref_types.declared.heap.HeapType.{HeapType as WrittenHeap}
+use Rattle.walrus_parsed_items.specs.walrus_body_trees.walrus_body_nesting.wasm_body_grammar.wasm_operators.wasm_ref_types.declared.value.ValType.{ValType as WrittenValue}
+use Rattle.walrus_parsed_items.specs.walrus_body_trees.walrus_body_nesting.wasm_body_grammar.wasm_operators.wasm_ref_types.declared.value.ValType.TheVariants as values
 use Rattle.walrus_parsed_items.specs.walrus_into_laws.walrus_meaning.walrus_local_function.walrus_function_parser.walrus_body_rules.Sights.{Sight, look, value_block}
 use Rattle.walrus_parsed_items.specs.walrus_body_trees.Laws.{IsNaming}
 use Rattle.walrus_forms.specs.declared.value.HeapType.{HeapType}

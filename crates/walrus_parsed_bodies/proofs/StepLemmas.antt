@@ -5,7 +5,7 @@ use Rattle.std.proofs.Common.{ap, sym, ◌∙◌, subst, inl, inr}
 use Rattle.walrus_parsed_items.specs.walrus_into_laws.walrus_meaning.walrus_linked.walrus_local_function.walrus_body_locals.wasm_body_grammar.Bodies.{Parts, body}
 use Rattle.walrus_parsed_items.specs.walrus_into_laws.walrus_meaning.walrus_linked.walrus_local_function.walrus_body_locals.wasm_body_grammar.Rules.{Around}
 use Rattle.walrus_parsed_items.specs.walrus_parse.walrus_file_bodies.walrus_items_into.walrus_module_env.wasm_run_names.Picks.{block_pick}
-use Rattle.walrus_parsed_items.specs.walrus_into_laws.walrus_meaning.walrus_linked.walrus_body_writer.walrus_pairing.wasm_immediates.wasm_features.declared.WasmFeatures.{WasmFeatures}
+use Rattle.walrus_parsed_items.specs.walrus_into_laws.walrus_meaning.walrus_linked.walrus_body_writer.walrus_pairing.wasm_operators.wasm_features.declared.WasmFeatures.{WasmFeatures}
 use Rattle.walrus_parsed_items.specs.walrus_into_laws.walrus_meaning.walrus_linked.walrus_local_function.walrus_body_locals.walrus_body_nesting.wasm_formats.Formats.{Small}
 use Rattle.walrus_parsed_items.specs.walrus_into_laws.walrus_meaning.walrus_linked.walrus_local_function.walrus_body_locals.wasm_normal_form.Trees.{tree_of}
 use Rattle.walrus_parsed_items.specs.walrus_parse.walrus_file_bodies.walrus_items_into.wasm_sections.Within.{ChunksFit}

@@ -8,14 +8,14 @@ use Rattle.walrus_parsed_items.specs.walrus_body_trees.walrus_body_nesting.wasm_
 use Rattle.walrus_parsed_items.specs.walrus_body_trees.walrus_body_nesting.wasm_body_grammar.wasm_formats.declared.fault.Space.TheVariants as spaces
 use Rattle.walrus_parsed_items.specs.walrus_body_trees.walrus_body_nesting.wasm_body_grammar.wasm_grammar.Modules as grammar
 use Rattle.walrus_parsed_items.specs.walrus_body_trees.walrus_body_nesting.wasm_body_grammar.wasm_grammar.States.{State, types_of}
-use Rattle.wasm_operator_bytes.specs.wasm_immediates.Items.{Space, Types, Functions, Tables, Memories, Tags, Globals, ElementSegments, DataSegments, Locals, Labels}
+use Rattle.wasm_operators.specs.Items.{Space, Types, Functions, Tables, Memories, Tags, Globals, ElementSegments, DataSegments, Locals, Labels}
 use Rattle.walrus_parsed_items.specs.wasm_import_links.Full.{AreFull, ReadModulesAreFull}
 use Rattle.walrus_parsed_items.specs.walrus_parse.walrus_file_bodies.walrus_items_into.wasm_module_rules.Reading.{bodies_length}
 use Rattle.walrus_parsed_items.specs.walrus_parse.walrus_file_bodies.walrus_items_into.wasm_module_rules.wasm_modules.Modules.{around, codes, module_of}
 use Rattle.walrus_parsed_items.specs.walrus_into_laws.walrus_meaning.walrus_linked.walrus_local_function.walrus_body_locals.wasm_normal_form.Normal.{normal_ops}
 use Rattle.walrus_parsed_items.specs.walrus_into_laws.walrus_meaning.walrus_linked.walrus_local_function.walrus_body_locals.wasm_normal_form.Roles.{Placed, placed}
-use Rattle.wasm_operator_bytes.specs.NameLaws.{NamesAreRenamed, renamed_name}
-use Rattle.wasm_operator_bytes.specs.Names.{Name, operator_names}
+use Rattle.wasm_operators.specs.NameLaws.{NamesAreRenamed, renamed_name}
+use Rattle.wasm_operators.specs.Names.{Name, operator_names}
 use Rattle.walrus_parsed_items.specs.wasm_import_links.wasm_ruled_modules.Bodied.{body_is}
 use Rattle.walrus_parsed_items.specs.wasm_import_links.wasm_ruled_modules.Rules.{GroupsBelow, IsBody, ReadModulesAreRuled}
 use Rattle.walrus_parsed_items.specs.walrus_parse.walrus_file_bodies.walrus_items_into.walrus_module_env.wasm_run_names.Picks.{block_pick}

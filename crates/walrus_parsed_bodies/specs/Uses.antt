@@ -3,8 +3,8 @@ use Rattle.std.specs.Prelude.{ℕ, ◌≡◌, ◌<◌, List, All, Some}
 use Rattle.std.specs.List.{AllByRecursion}
 use Rattle.walrus_parsed_items.specs.walrus_body_trees.walrus_body_nesting.wasm_body_grammar.Rules.{space_of}
 use Rattle.walrus_parsed_items.specs.walrus_body_trees.walrus_body_nesting.wasm_body_grammar.wasm_grammar.Modules.{Placed}
-use Rattle.wasm_operator_bytes.specs.wasm_immediates.Items.{Space, Locals, Labels}
-use Rattle.wasm_operator_bytes.specs.Names.{Name, operator_names}
+use Rattle.wasm_operators.specs.Items.{Space, Locals, Labels}
+use Rattle.wasm_operators.specs.Names.{Name, operator_names}
 use Rattle.walrus_arena.specs.Arena.{item_at}
 use Rattle.walrus_config.specs.declared.config.ModuleConfig.{ModuleConfig}
 use Rattle.walrus_parsed_items.specs.walrus_parse.walrus_file_bodies.Ready.{bodies_in}

@@ -20,7 +20,7 @@ use walrus_parsed_items::into_laws::ordered_stay;
 use walrus_parsed_items::into_laws::types_into::laws::{new_types_stand, types_name_below};
 use walrus_parsed_items::laws::read_modules_have_items;
 use walrus_parsed_items::ruled_modules::laws::read_modules_are_ruled;
-use wasm_operator_bytes::laws::names_are_renamed;
+use wasm_operators::laws::names_are_renamed;
 
 /// In a module that was read each function is imported, or has a body of distinct arguments, one for each parameter of its type, whose
 /// sequences form a tree in which each label names a sequence around it.

@@ -5,14 +5,14 @@ use Rattle.std.specs.List.{flat_map}
 use Rattle.std.specs.Option.{option_and_then, option_map}
 use Rattle.std.proofs.lemmas.List.{append_assoc, append-nil}
 use Rattle.std.proofs.lemmas.List.Concat.{flat_map-append}
-use Rattle.walrus_parsed_linked.specs.walrus_pairing.wasm_immediates.wasm_features.declared.WasmFeatures.{WasmFeatures}
-use Rattle.walrus_parsed_linked.specs.walrus_pairing.wasm_immediates.declared.block_type.BlockType.{BlockType}
-use Rattle.walrus_parsed_linked.specs.walrus_pairing.wasm_immediates.declared.block_type.BlockType.TheVariants as blocks
-use Rattle.walrus_parsed_linked.specs.walrus_pairing.wasm_immediates.Items.{Types}
+use Rattle.walrus_parsed_linked.specs.walrus_pairing.wasm_operators.wasm_features.declared.WasmFeatures.{WasmFeatures}
+use Rattle.walrus_parsed_linked.specs.walrus_pairing.wasm_operators.declared.block_type.BlockType.{BlockType}
+use Rattle.walrus_parsed_linked.specs.walrus_pairing.wasm_operators.declared.block_type.BlockType.TheVariants as blocks
+use Rattle.walrus_parsed_linked.specs.walrus_pairing.wasm_operators.Items.{Types}
 use Rattle.walrus_parsed_linked.specs.walrus_parsed_items.walrus_parse.walrus_file_bodies.walrus_items_into.walrus_module_env.walrus_handler_types.walrus_handler_laws.walrus_body_steps.wasm_normal_form.Trees.{Tree as OpTree, Close, Arm, Skip, Run, Nest}
-use Rattle.wasm_operator_bytes.specs.wasm_operators.Operators.{Seen, flow_of}
-use Rattle.wasm_operator_bytes.specs.wasm_operators.declared.entry.Flow.{Flow}
-use Rattle.wasm_operator_bytes.specs.wasm_operators.declared.entry.Flow.TheVariants as flows
+use Rattle.wasm_operators.specs.Operators.{Seen, flow_of}
+use Rattle.wasm_operators.specs.declared.entry.Flow.{Flow}
+use Rattle.wasm_operators.specs.declared.entry.Flow.TheVariants as flows
 use Rattle.walrus_forms.specs.declared.value.ValType.{ValType}
 use Rattle.walrus_parsed_linked.specs.walrus_pairing.walrus_instr.declared.instr.Instr.{Instr}
 use Rattle.walrus_parsed_linked.specs.walrus_pairing.walrus_instr.declared.instr.LegacyCatch.{LegacyCatch}

@@ -48,7 +48,7 @@ use Rattle.walrus_parsed_linked.proofs.walrus_parse.walrus_handler_types.Growing
 use Rattle.walrus_parsed_linked.specs.walrus_parsed_items.walrus_parse.walrus_file_bodies.walrus_items_into.walrus_module_env.walrus_handler_types.Giving.{tree_handlers}
 use Rattle.walrus_parsed_linked.specs.walrus_pairing.Laws.{OperatorComesBack}
 use Rattle.walrus_parsed_linked.specs.walrus_pairing.walrus_index_maps.Maps.{Ids}
-use Rattle.walrus_parsed_linked.specs.walrus_pairing.wasm_immediates.wasm_features.declared.WasmFeatures.{WasmFeatures}
+use Rattle.walrus_parsed_linked.specs.walrus_pairing.wasm_operators.wasm_features.declared.WasmFeatures.{WasmFeatures}
 use Rattle.walrus_parsed_linked.specs.walrus_parsed_items.walrus_parse.Parsed.{read_features}
 use Rattle.walrus_parsed_linked.specs.walrus_parsed_items.walrus_parse.walrus_item_names.Holder.{Holder}
 use Rattle.walrus_parsed_linked.specs.walrus_parsed_items.walrus_parse.walrus_item_names.Names.{bare_type}

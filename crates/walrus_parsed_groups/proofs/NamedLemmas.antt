@@ -30,23 +30,23 @@ use Rattle.walrus_parsed_linked.specs.walrus_pairing.walrus_instr.declared.instr
 use Rattle.walrus_parsed_linked.specs.walrus_pairing.walrus_instr.declared.seq.InstrLocId.{InstrLocId}
 use Rattle.walrus_parsed_linked.specs.walrus_pairing.walrus_instr.declared.seq.InstrSeqType.{InstrSeqType}
 use Rattle.walrus_parsed_linked.specs.walrus_pairing.walrus_instr.declared.seq.InstrSeqType.TheVariants.{Simple, MultiValue}
-use Rattle.walrus_parsed_linked.specs.walrus_pairing.wasm_immediates.Items.{Tags, Types}
-use Rattle.walrus_parsed_linked.specs.walrus_pairing.wasm_immediates.declared.block_type.BlockType.{BlockType}
-use Rattle.walrus_parsed_linked.specs.walrus_pairing.wasm_immediates.declared.block_type.BlockType.TheVariants as blocks
+use Rattle.walrus_parsed_linked.specs.walrus_pairing.wasm_operators.Items.{Tags, Types}
+use Rattle.walrus_parsed_linked.specs.walrus_pairing.wasm_operators.declared.block_type.BlockType.{BlockType}
+use Rattle.walrus_parsed_linked.specs.walrus_pairing.wasm_operators.declared.block_type.BlockType.TheVariants as blocks
 use Rattle.walrus_parsed_linked.specs.walrus_parsed_items.walrus_parse.walrus_module.walrus_builder.Built.{Seq}
 use Rattle.walrus_parsed_linked.specs.walrus_parsed_items.walrus_parse.walrus_module.walrus_types.Items.{Item}
 use Rattle.walrus_parsed_linked.specs.walrus_parsed_items.walrus_parse.walrus_module.walrus_types.Table.{Table, found_type, type_at}
 use Rattle.walrus_types.proofs.LawLemmas.{latest-law}
 use Rattle.walrus_types.specs.TypeLaws.{IsLatest}
-use Rattle.wasm_operator_bytes.specs.wasm_operators.Operators.{Seen, flow_of}
-use Rattle.wasm_operator_bytes.specs.wasm_operators.wasm_ref_types.Reference.{Reference}
-use Rattle.wasm_operator_bytes.specs.wasm_operators.wasm_ref_types.declared.heap.AbstractHeapType.{AbstractHeapType as ReadAbstract}
-use Rattle.wasm_operator_bytes.specs.wasm_operators.wasm_ref_types.declared.heap.AbstractHeapType.TheVariants as from
-use Rattle.wasm_operator_bytes.specs.wasm_operators.wasm_ref_types.declared.heap.HeapType.{HeapType as ReadHeap}
-use Rattle.wasm_operator_bytes.specs.wasm_operators.wasm_ref_types.declared.heap.HeapType.TheVariants.{Abstract as FromAbstract, Concrete as FromConcrete, Exact as FromExact}
-use Rattle.wasm_operator_bytes.specs.wasm_operators.wasm_ref_types.declared.index.UnpackedIndex.TheVariants.{Module, RecGroup, Id}
-use Rattle.wasm_operator_bytes.specs.wasm_operators.wasm_ref_types.declared.value.ValType.{ValType as ReadValue}
-use Rattle.wasm_operator_bytes.specs.wasm_operators.wasm_ref_types.declared.value.ValType.TheVariants as values
+use Rattle.wasm_operators.specs.Operators.{Seen, flow_of}
+use Rattle.wasm_operators.specs.wasm_ref_types.Reference.{Reference}
+use Rattle.wasm_operators.specs.wasm_ref_types.declared.heap.AbstractHeapType.{AbstractHeapType as ReadAbstract}
+use Rattle.wasm_operators.specs.wasm_ref_types.declared.heap.AbstractHeapType.TheVariants as from
+use Rattle.wasm_operators.specs.wasm_ref_types.declared.heap.HeapType.{HeapType as ReadHeap}
+use Rattle.wasm_operators.specs.wasm_ref_types.declared.heap.HeapType.TheVariants.{Abstract as FromAbstract, Concrete as FromConcrete, Exact as FromExact}
+use Rattle.wasm_operators.specs.wasm_ref_types.declared.index.UnpackedIndex.TheVariants.{Module, RecGroup, Id}
+use Rattle.wasm_operators.specs.wasm_ref_types.declared.value.ValType.{ValType as ReadValue}
+use Rattle.wasm_operators.specs.wasm_ref_types.declared.value.ValType.TheVariants as values
 use Rattle.walrus_parsed_groups.specs.Added.{Signature}
 use Rattle.walrus_parsed_groups.specs.Catches.{catches, opened_results, part_signature}
 use Rattle.walrus_parsed_groups.specs.Files.{block_gives, opened_gives, part_handles, sent, tag_takes, text_handles, type_params, type_results}

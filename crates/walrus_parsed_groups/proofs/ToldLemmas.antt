@@ -3,9 +3,9 @@ use Rattle.std.proofs.Common.{◌≡◌, ◌∙◌, ℕ, zero, suc, ◌<◌, Boo
 use Rattle.std.specs.Prelude.{◌==◌, IsSome, slice_get, if◌then◌else◌}
 use Rattle.std.specs.List.{AllByRecursion}
 use Rattle.std.specs.Option.{option_map}
-use Rattle.walrus_parsed_linked.specs.walrus_pairing.wasm_immediates.wasm_features.declared.WasmFeatures.{WasmFeatures}
+use Rattle.walrus_parsed_linked.specs.walrus_pairing.wasm_operators.wasm_features.declared.WasmFeatures.{WasmFeatures}
 use Rattle.walrus_parsed_linked.specs.walrus_parsed_items.walrus_parse.walrus_file_bodies.walrus_items_into.walrus_module_env.walrus_handler_types.walrus_handler_laws.walrus_body_steps.wasm_normal_form.Trees.{Tree as OpTree, Close, Arm, Skip, Run, Nest}
-use Rattle.wasm_operator_bytes.specs.wasm_operators.Operators.{Seen}
+use Rattle.wasm_operators.specs.Operators.{Seen}
 use Rattle.walrus_forms.specs.declared.value.ValType.{ValType}
 use Rattle.walrus_parsed_linked.specs.walrus_pairing.walrus_instr.declared.instr.Instr.{Instr}
 use Rattle.walrus_parsed_linked.specs.walrus_pairing.walrus_instr.declared.instr.Instr.TheVariants as instrs

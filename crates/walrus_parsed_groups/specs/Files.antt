@@ -17,14 +17,14 @@ use Rattle.walrus_parsed_linked.specs.walrus_parsed_items.walrus_parse.walrus_fi
 use Rattle.walrus_parsed_linked.specs.walrus_parsed_items.walrus_parse.walrus_file_bodies.walrus_items_into.walrus_module_env.walrus_handler_types.walrus_handler_laws.walrus_body_steps.wasm_normal_form.Roles.{placed}
 use Rattle.walrus_parsed_linked.specs.walrus_parsed_items.walrus_parse.walrus_file_bodies.walrus_items_into.walrus_module_env.walrus_handler_types.walrus_handler_laws.walrus_body_steps.wasm_normal_form.Trees.{Tree, Close, Arm, Skip, Run, Nest, tree_of}
 use Rattle.walrus_parsed_linked.specs.walrus_pairing.walrus_index_maps.Maps.{Ids}
-use Rattle.walrus_parsed_linked.specs.walrus_pairing.wasm_immediates.Items.{Tags, Item, Names, Block}
-use Rattle.walrus_parsed_linked.specs.walrus_pairing.wasm_immediates.declared.block_type.BlockType.{BlockType}
-use Rattle.walrus_parsed_linked.specs.walrus_pairing.wasm_immediates.declared.block_type.BlockType.TheVariants as blocks
+use Rattle.walrus_parsed_linked.specs.walrus_pairing.wasm_operators.Items.{Tags, Item, Names, Block}
+use Rattle.walrus_parsed_linked.specs.walrus_pairing.wasm_operators.declared.block_type.BlockType.{BlockType}
+use Rattle.walrus_parsed_linked.specs.walrus_pairing.wasm_operators.declared.block_type.BlockType.TheVariants as blocks
 use Rattle.walrus_parsed_linked.specs.walrus_parsed_items.walrus_parse.Parsed.{IsReadAs}
 use Rattle.walrus_parsed_linked.specs.walrus_parsed_items.walrus_parse.walrus_module.declared.module.Module.{Module as Whole}
-use Rattle.wasm_operator_bytes.specs.wasm_operators.Operators.{flow_of}
-use Rattle.wasm_operator_bytes.specs.wasm_operators.declared.entry.Flow.{Flow}
-use Rattle.wasm_operator_bytes.specs.wasm_operators.declared.entry.Flow.TheVariants as flows
+use Rattle.wasm_operators.specs.Operators.{flow_of}
+use Rattle.wasm_operators.specs.declared.entry.Flow.{Flow}
+use Rattle.wasm_operators.specs.declared.entry.Flow.TheVariants as flows
 use Rattle.walrus_parsed_groups.specs.Added.{Signature}
 use Rattle.walrus_parsed_groups.specs.Groups.{handlers_of}
 use Rattle.walrus_parsed_groups.specs.Handlers.{signature_of, signatures}

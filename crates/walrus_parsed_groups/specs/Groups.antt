@@ -1,7 +1,7 @@
 -- The groups of types of a module that was read: those of its file, and behind them the types that its handlers have and the file hasn't.
 use Rattle.std.specs.Prelude.{ℕ, ◌≡◌, ◌<◌, false, List, [], ◌∷◌, ◌++◌, All, map, Option}
 use Rattle.std.specs.List.{AllByRecursion, flat_map}
-use Rattle.walrus_parsed_linked.specs.walrus_pairing.wasm_immediates.wasm_features.declared.WasmFeatures.{WasmFeatures}
+use Rattle.walrus_parsed_linked.specs.walrus_pairing.wasm_operators.wasm_features.declared.WasmFeatures.{WasmFeatures}
 use Rattle.walrus_config.specs.declared.config.ModuleConfig.{ModuleConfig}
 use Rattle.walrus_parsed_linked.specs.walrus_parsed_items.walrus_parse.walrus_file_bodies.Ready.{bodies_in}
 use Rattle.walrus_forms.specs.Records.{TypeGroup}

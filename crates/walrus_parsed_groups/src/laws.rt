@@ -13,7 +13,7 @@ use walrus_parsed_linked::pairing::laws::operators_come_back;
 use walrus_parsed_linked::parsed_bodies::file_bodies::items_into::laws::filled_functions_stand;
 use walrus_parsed_linked::parsed_bodies::file_bodies::laws::bodies_read_files;
 use walrus_parsed_linked::parsed_items::into_laws::types_into::laws::types_name_below;
-use wasm_operator_bytes::laws::operators_in_range_are_spelled;
+use wasm_operators::laws::operators_in_range_are_spelled;
 
 /// The groups of types of a module that was read are those of its file, but for single types that are merged with earlier ones, each type's
 /// number being its id; behind them stand, each by itself and once, the types that handlers of legacy `try`s have and the file hasn't: from

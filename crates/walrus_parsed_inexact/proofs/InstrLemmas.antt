@@ -22,19 +22,19 @@ use Rattle.walrus_parsed_served.specs.walrus_parsed_linked.walrus_pairing.Write.
 use Rattle.walrus_parsed_inexact.proofs.ValueLemmas.{InexactType, heap_false, operator_renamed, or_false, read_inexact, some_is, word_read}
 use Rattle.walrus_marks.specs.walrus_walks.Tree.{children}
 use Rattle.walrus_parsed_served.specs.walrus_parsed_linked.walrus_parsed_items.walrus_parse.walrus_file_bodies.walrus_items_into.walrus_module_env.walrus_body_parser.wasm_operators.wasm_features.declared.WasmFeatures.{WasmFeatures}
-use Rattle.walrus_parsed_served.specs.walrus_parsed_linked.walrus_pairing.wasm_immediates.Items.{Types, Labels, Item, Names, Byte, Heap, ManyLabels, ManyValues}
-use Rattle.walrus_parsed_served.specs.walrus_parsed_linked.walrus_pairing.wasm_immediates.declared.block_type.BlockType.TheVariants as blocks
-use Rattle.walrus_parsed_served.specs.walrus_parsed_linked.walrus_pairing.wasm_immediates.declared.block_type.BlockType.{BlockType}
+use Rattle.walrus_parsed_served.specs.walrus_parsed_linked.walrus_pairing.wasm_operators.Items.{Types, Labels, Item, Names, Byte, Heap, ManyLabels, ManyValues}
+use Rattle.walrus_parsed_served.specs.walrus_parsed_linked.walrus_pairing.wasm_operators.declared.block_type.BlockType.TheVariants as blocks
+use Rattle.walrus_parsed_served.specs.walrus_parsed_linked.walrus_pairing.wasm_operators.declared.block_type.BlockType.{BlockType}
 use Rattle.wasm_inexact_modules.specs.Inexact.{InexactBlock, InexactItem, InexactOperator, InexactValues, InexactWord}
-use Rattle.walrus_parsed_served.specs.walrus_parsed_linked.walrus_pairing.wasm_operator_bytes.Names.{Renaming, renamed_operator}
-use Rattle.wasm_operator_bytes.specs.Ranges.{OperatorFits}
+use Rattle.walrus_parsed_served.specs.walrus_parsed_linked.walrus_pairing.wasm_operators.Names.{Renaming, renamed_operator}
+use Rattle.wasm_operators.specs.Ranges.{OperatorFits}
 use Rattle.walrus_parsed_served.specs.walrus_parsed_linked.walrus_parsed_items.walrus_parse.walrus_file_bodies.walrus_items_into.walrus_module_env.walrus_body_parser.wasm_operators.Operators.{Seen}
 use Rattle.walrus_parsed_served.specs.walrus_parsed_linked.walrus_parsed_items.walrus_parse.walrus_file_bodies.walrus_items_into.walrus_module_env.walrus_body_parser.wasm_operators.declared.op_code.OpCode.{OpCode}
-use Rattle.walrus_parsed_served.specs.walrus_parsed_linked.walrus_pairing.wasm_operator_bytes.wasm_ref_types.Reference.{reference as written_reference}
-use Rattle.walrus_parsed_served.specs.walrus_parsed_linked.walrus_pairing.wasm_operator_bytes.wasm_ref_types.declared.heap.HeapType.TheVariants as written
-use Rattle.walrus_parsed_served.specs.walrus_parsed_linked.walrus_pairing.wasm_operator_bytes.wasm_ref_types.declared.index.UnpackedIndex.TheVariants.{Module}
-use Rattle.walrus_parsed_served.specs.walrus_parsed_linked.walrus_pairing.wasm_operator_bytes.wasm_ref_types.declared.value.ValType.TheVariants as words
-use Rattle.walrus_parsed_served.specs.walrus_parsed_linked.walrus_pairing.wasm_operator_bytes.wasm_ref_types.declared.value.ValType.{ValType as WrittenValue}
+use Rattle.walrus_parsed_served.specs.walrus_parsed_linked.walrus_pairing.wasm_operators.wasm_ref_types.Reference.{reference as written_reference}
+use Rattle.walrus_parsed_served.specs.walrus_parsed_linked.walrus_pairing.wasm_operators.wasm_ref_types.declared.heap.HeapType.TheVariants as written
+use Rattle.walrus_parsed_served.specs.walrus_parsed_linked.walrus_pairing.wasm_operators.wasm_ref_types.declared.index.UnpackedIndex.TheVariants.{Module}
+use Rattle.walrus_parsed_served.specs.walrus_parsed_linked.walrus_pairing.wasm_operators.wasm_ref_types.declared.value.ValType.TheVariants as words
+use Rattle.walrus_parsed_served.specs.walrus_parsed_linked.walrus_pairing.wasm_operators.wasm_ref_types.declared.value.ValType.{ValType as WrittenValue}
 
 -- ---- plain instructions
 

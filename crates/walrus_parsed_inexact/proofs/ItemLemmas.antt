@@ -32,7 +32,7 @@ use Rattle.walrus_parsed_served.specs.walrus_passes_laws.walrus_refusals.Written
 use Rattle.walrus_parsed_served.specs.walrus_parsed_linked.walrus_parsed_items.walrus_parse.walrus_file_bodies.walrus_items_into.wasm_sections.wasm_grammar.Modules as grammar
 use Rattle.wasm_inexact_modules.specs.Inexact.{InexactElements, InexactExpr, InexactInit, InexactMode, InexactOperator, InexactOrigin, InexactRef, InexactValue, InexactWritten}
 use Rattle.walrus_parsed_served.specs.walrus_parsed_linked.walrus_parsed_items.walrus_parse.walrus_file_bodies.walrus_items_into.wasm_module_rules.Linked.{Each}
-use Rattle.walrus_parsed_served.specs.walrus_parsed_linked.walrus_pairing.wasm_operator_bytes.Names.{renamed_operator}
+use Rattle.walrus_parsed_served.specs.walrus_parsed_linked.walrus_pairing.wasm_operators.Names.{renamed_operator}
 
 -- ---- slots
 

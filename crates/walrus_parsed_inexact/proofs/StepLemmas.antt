@@ -53,9 +53,9 @@ use Rattle.walrus_parsed_served.specs.walrus_parsed_linked.walrus_parsed_items.w
 use Rattle.wasm_inexact_modules.specs.Inexact.{InexactBody, InexactOperator, InexactValue, InexactValues, ReadBodiesAreInexact}
 use Rattle.walrus_parsed_served.specs.walrus_parsed_linked.walrus_parsed_items.walrus_parse.walrus_file_bodies.walrus_items_into.walrus_module_env.walrus_handler_types.walrus_body_steps.wasm_normal_form.Normal.{normal}
 use Rattle.walrus_parsed_served.specs.walrus_parsed_linked.walrus_parsed_items.walrus_parse.walrus_file_bodies.walrus_items_into.walrus_module_env.walrus_handler_types.walrus_body_steps.wasm_normal_form.Trees.{tree_of}
-use Rattle.wasm_operator_bytes.specs.Bytes.{operator_bytes}
-use Rattle.wasm_operator_bytes.specs.RangeLaws.{SpelledIfFits}
-use Rattle.wasm_operator_bytes.specs.Ranges.{OperatorFits}
+use Rattle.wasm_operators.specs.Bytes.{operator_bytes}
+use Rattle.wasm_operators.specs.RangeLaws.{SpelledIfFits}
+use Rattle.wasm_operators.specs.Ranges.{OperatorFits}
 use Rattle.walrus_parsed_served.specs.walrus_parsed_linked.walrus_parsed_items.walrus_parse.walrus_file_bodies.walrus_items_into.walrus_module_env.walrus_body_parser.wasm_operators.Operators.{Seen}
 use Rattle.walrus_parsed_served.specs.walrus_parsed_linked.walrus_parsed_items.walrus_parse.walrus_file_bodies.walrus_items_into.walrus_module_env.walrus_body_parser.wasm_operators.Spellings.{SpellsEither, SpellsOperator}
 use Rattle.walrus_parsed_served.specs.walrus_parsed_linked.walrus_parsed_items.walrus_parse.walrus_file_bodies.walrus_items_into.walrus_module_env.wasm_run_names.Picks.{block_pick}

@@ -18,9 +18,9 @@ use Rattle.walrus_parsed_served.specs.walrus_parsed_linked.walrus_parsed_items.w
 use Rattle.walrus_parsed_served.specs.walrus_parsed_linked.walrus_parsed_items.walrus_parse.walrus_file_bodies.walrus_items_into.wasm_sections.wasm_grammar.Modules as grammar
 use Rattle.walrus_parsed_served.specs.walrus_parsed_linked.walrus_parsed_items.walrus_parse.walrus_file_bodies.walrus_items_into.wasm_sections.wasm_grammar.States.{types_of}
 use Rattle.walrus_parsed_served.specs.walrus_parsed_linked.walrus_parsed_items.walrus_parse.walrus_file_bodies.walrus_items_into.wasm_sections.wasm_grammar.TypeWords.{value_of}
-use Rattle.walrus_parsed_served.specs.walrus_parsed_linked.walrus_pairing.wasm_immediates.Items.{Item, Names, Number, S32, S64, Bits, Byte, Bytes, Heap, Block, Access, ManyLabels, ManyValues, ManyClauses, Tags}
-use Rattle.walrus_parsed_served.specs.walrus_parsed_linked.walrus_pairing.wasm_immediates.declared.block_type.BlockType.TheVariants as blocks
-use Rattle.walrus_parsed_served.specs.walrus_parsed_linked.walrus_pairing.wasm_immediates.declared.block_type.BlockType.{BlockType}
+use Rattle.walrus_parsed_served.specs.walrus_parsed_linked.walrus_pairing.wasm_operators.Items.{Item, Names, Number, S32, S64, Bits, Byte, Bytes, Heap, Block, Access, ManyLabels, ManyValues, ManyClauses, Tags}
+use Rattle.walrus_parsed_served.specs.walrus_parsed_linked.walrus_pairing.wasm_operators.declared.block_type.BlockType.TheVariants as blocks
+use Rattle.walrus_parsed_served.specs.walrus_parsed_linked.walrus_pairing.wasm_operators.declared.block_type.BlockType.{BlockType}
 use Rattle.wasm_inexact_modules.proofs.SpellLemmas.{told_inexact}
 use Rattle.wasm_inexact_modules.specs.Inexact.{InexactBlock, InexactBody, InexactForm, InexactGroups, InexactItem, InexactKinds, InexactOperator, InexactValues, ReadBodiesAreInexact}
 use Rattle.walrus_parsed_served.specs.walrus_parsed_linked.walrus_parsed_items.walrus_parse.walrus_file_bodies.walrus_items_into.walrus_module_env.walrus_handler_types.walrus_body_steps.wasm_normal_form.Trees.{Tree, Close, Arm, Skip, Run, Nest, tree_of}

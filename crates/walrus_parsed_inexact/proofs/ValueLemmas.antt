@@ -20,15 +20,15 @@ use Rattle.walrus_marks.specs.walrus_instr.declared.seq.InstrSeqType.TheVariants
 use Rattle.walrus_marks.specs.walrus_instr.declared.seq.InstrSeqType.{InstrSeqType}
 use Rattle.walrus_parsed_served.specs.walrus_parsed_linked.walrus_pairing.Looks.{Or, ◌>>=◌}
 use Rattle.walrus_parsed_served.specs.walrus_parsed_linked.walrus_pairing.Types.{read_abstract, read_heap, read_index, read_value}
-use Rattle.walrus_parsed_served.specs.walrus_parsed_linked.walrus_pairing.wasm_immediates.Items.{Item, Names, Number, S32, S64, Bits, Byte, Bytes, Heap, Block, Access, ManyLabels, ManyValues, ManyClauses}
-use Rattle.walrus_parsed_served.specs.walrus_parsed_linked.walrus_pairing.wasm_immediates.declared.block_type.BlockType.TheVariants as blocks
+use Rattle.walrus_parsed_served.specs.walrus_parsed_linked.walrus_pairing.wasm_operators.Items.{Item, Names, Number, S32, S64, Bits, Byte, Bytes, Heap, Block, Access, ManyLabels, ManyValues, ManyClauses}
+use Rattle.walrus_parsed_served.specs.walrus_parsed_linked.walrus_pairing.wasm_operators.declared.block_type.BlockType.TheVariants as blocks
 use Rattle.wasm_inexact_modules.specs.Inexact.{InexactField, InexactForm, InexactHeap, InexactItem, InexactOperator, InexactRef, InexactValue, InexactValues, InexactWord, InexactWritten}
-use Rattle.walrus_parsed_served.specs.walrus_parsed_linked.walrus_pairing.wasm_operator_bytes.Names.{Renaming, renamed_item, renamed_operator, renamed_heap as renamed_written, renamed_value as renamed_word}
+use Rattle.walrus_parsed_served.specs.walrus_parsed_linked.walrus_pairing.wasm_operators.Names.{Renaming, renamed_item, renamed_operator, renamed_heap as renamed_written, renamed_value as renamed_word}
 use Rattle.walrus_parsed_served.specs.walrus_parsed_linked.walrus_parsed_items.walrus_parse.walrus_file_bodies.walrus_items_into.walrus_module_env.walrus_body_parser.wasm_operators.Operators.{Seen}
-use Rattle.walrus_parsed_served.specs.walrus_parsed_linked.walrus_pairing.wasm_operator_bytes.wasm_ref_types.declared.heap.HeapType.TheVariants as written
-use Rattle.walrus_parsed_served.specs.walrus_parsed_linked.walrus_pairing.wasm_operator_bytes.wasm_ref_types.declared.heap.HeapType.{HeapType as WrittenHeap}
-use Rattle.walrus_parsed_served.specs.walrus_parsed_linked.walrus_pairing.wasm_operator_bytes.wasm_ref_types.declared.value.ValType.TheVariants as words
-use Rattle.walrus_parsed_served.specs.walrus_parsed_linked.walrus_pairing.wasm_operator_bytes.wasm_ref_types.declared.value.ValType.{ValType as WrittenValue}
+use Rattle.walrus_parsed_served.specs.walrus_parsed_linked.walrus_pairing.wasm_operators.wasm_ref_types.declared.heap.HeapType.TheVariants as written
+use Rattle.walrus_parsed_served.specs.walrus_parsed_linked.walrus_pairing.wasm_operators.wasm_ref_types.declared.heap.HeapType.{HeapType as WrittenHeap}
+use Rattle.walrus_parsed_served.specs.walrus_parsed_linked.walrus_pairing.wasm_operators.wasm_ref_types.declared.value.ValType.TheVariants as words
+use Rattle.walrus_parsed_served.specs.walrus_parsed_linked.walrus_pairing.wasm_operators.wasm_ref_types.declared.value.ValType.{ValType as WrittenValue}
 
 -- ---- tests
 

@@ -11,7 +11,7 @@ use walrus_parsed_served::parsed_groups::laws::read_modules_have_handlers;
 use walrus_parsed_served::parsed_items::laws::read_modules_have_items;
 use walrus_parsed_served::sent_laws::instr::InstrLocId;
 use wasm_inexact_modules::laws::{read_bodies_are_inexact, read_sections_are_inexact};
-use wasm_operator_bytes::laws::operators_in_range_are_spelled;
+use wasm_operators::laws::operators_in_range_are_spelled;
 
 /// In a module that was read no heap type is exact: in no type, table, global, segment or local, and in no reached sequence of a body.
 pub fn read_modules_have_no_exact<B>()

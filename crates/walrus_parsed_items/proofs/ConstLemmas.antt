@@ -10,11 +10,11 @@ use Rattle.walrus_into_laws.specs.walrus_meaning.walrus_local_function.walrus_bo
 use Rattle.wasm_module_rules.specs.Keeps.{first_none, must_holds}
 use Rattle.wasm_import_links.specs.wasm_ruled_modules.Rules.{AreKnown, IsExpr}
 use Rattle.walrus_into_laws.specs.walrus_meaning.walrus_body_writer.walrus_pairing.walrus_codes.wasm_operators.Operators.{Seen}
-use Rattle.walrus_into_laws.specs.walrus_meaning.walrus_local_function.walrus_body_locals.wasm_body_grammar.wasm_operator_bytes.Names.{renamed_heap, renamed_item, renamed_operator}
+use Rattle.walrus_into_laws.specs.walrus_meaning.walrus_local_function.walrus_body_locals.wasm_body_grammar.wasm_operators.Names.{renamed_heap, renamed_item, renamed_operator}
 use Rattle.walrus_into_laws.specs.walrus_meaning.walrus_local_function.walrus_body_locals.wasm_ref_types.declared.heap.HeapType.{HeapType as Read}
 use Rattle.walrus_into_laws.specs.walrus_meaning.walrus_local_function.walrus_body_locals.wasm_ref_types.declared.heap.HeapType.TheVariants as read
 use Rattle.walrus_into_laws.specs.walrus_meaning.walrus_local_function.walrus_body_locals.wasm_ref_types.declared.index.UnpackedIndex.TheVariants.{Module, RecGroup, Id}
-use Rattle.walrus_into_laws.specs.walrus_meaning.walrus_body_writer.walrus_pairing.wasm_immediates.Items.{Space, Types, Functions, Globals, Item as Word, Names, Number, S32, S64, Bits, Byte, Bytes, Heap, Block, Access, ManyLabels, ManyValues, ManyClauses}
+use Rattle.walrus_into_laws.specs.walrus_meaning.walrus_body_writer.walrus_pairing.wasm_operators.Items.{Space, Types, Functions, Globals, Item as Word, Names, Number, S32, S64, Bits, Byte, Bytes, Heap, Block, Access, ManyLabels, ManyValues, ManyClauses}
 use Rattle.walrus_walks.specs.walrus_forms.declared.value.HeapType.{HeapType}
 use Rattle.walrus_walks.specs.walrus_forms.declared.value.HeapType.TheVariants.{Abstract, Concrete, Exact}
 use Rattle.walrus_marks.specs.walrus_instr.Constants.{ops_of}

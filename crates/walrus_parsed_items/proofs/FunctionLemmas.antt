@@ -2,7 +2,7 @@
 use Rattle.std.specs.Prelude.{ℕ, zero, suc, ◌≡◌, ◌+◌, Bool, true, false, List, [], ◌∷◌, map, Option, Some, None, slice_index_or, slice_set, refl}
 use Rattle.std.specs.Option.{option_map}
 use Rattle.std.proofs.Common.{ap, sym, subst, ◌∙◌, arith}
-use Rattle.walrus_into_laws.specs.walrus_meaning.walrus_body_writer.walrus_pairing.wasm_immediates.wasm_features.declared.WasmFeatures.{WasmFeatures}
+use Rattle.walrus_into_laws.specs.walrus_meaning.walrus_body_writer.walrus_pairing.wasm_operators.wasm_features.declared.WasmFeatures.{WasmFeatures}
 use Rattle.walrus_into_laws.specs.walrus_meaning.walrus_local_function.walrus_body_locals.wasm_grammar.Modules as grammar
 use Rattle.walrus_into_laws.specs.walrus_meaning.walrus_local_function.walrus_body_locals.wasm_body_grammar.Codes.{with_bodies}
 use Rattle.walrus_arena.specs.Arena.{Arena}

@@ -23,7 +23,7 @@ use Rattle.walrus_into_laws.specs.walrus_parse.walrus_module.walrus_module_items
 use Rattle.walrus_into_laws.specs.walrus_parse.Parsed.{read_features}
 use Rattle.walrus_into_laws.specs.walrus_parse.walrus_file_bodies.walrus_items_into.walrus_tables_into.walrus_sections_into.Becomes.{look_of}
 use Rattle.walrus_into_laws.specs.walrus_parse.walrus_file_bodies.walrus_items_into.walrus_functions_into.walrus_types_into.Into.{NewTypesStand, TypesNameBelow}
-use Rattle.walrus_into_laws.specs.walrus_meaning.walrus_body_writer.walrus_pairing.wasm_immediates.wasm_features.declared.WasmFeatures.{WasmFeatures}
+use Rattle.walrus_into_laws.specs.walrus_meaning.walrus_body_writer.walrus_pairing.wasm_operators.wasm_features.declared.WasmFeatures.{WasmFeatures}
 use Rattle.walrus_into_laws.specs.walrus_parse.walrus_file_bodies.walrus_items_into.wasm_sections.Laws.{ReadsSections}
 use Rattle.walrus_parsed_items.specs.Items.{HasItems, ReadModulesHaveItems, heads, same}
 use Rattle.walrus_parsed_items.proofs.FunctionLemmas.{head_in, heads_filled, heads_meant, heads_retyped, none_brought, steps_heads}

@@ -6,7 +6,7 @@ use Rattle.std.proofs.Common.{ap, sym, ◌∙◌, subst, arith, inl, inr}
 use Rattle.std.proofs.lemmas.List.{length-append, length-map}
 use Rattle.walrus_parsed_bodies.specs.walrus_parsed_items.walrus_body_trees.walrus_body_nesting.wasm_body_grammar.Rules.{Around}
 use Rattle.walrus_parsed_bodies.specs.walrus_parsed_items.walrus_body_trees.walrus_body_nesting.wasm_body_grammar.wasm_grammar.Modules as grammar
-use Rattle.walrus_parsed_bodies.specs.walrus_parsed_items.walrus_body_trees.walrus_body_nesting.wasm_body_grammar.wasm_operator_bytes.wasm_immediates.Items.{Locals}
+use Rattle.walrus_parsed_bodies.specs.walrus_parsed_items.walrus_body_trees.walrus_body_nesting.wasm_body_grammar.wasm_operators.Items.{Locals}
 use Rattle.walrus_parsed_bodies.specs.walrus_parsed_items.walrus_into_laws.walrus_meaning.walrus_local_function.walrus_body_locals.wasm_normal_form.Bodies.{is_used, local_in, locals_named, new_number, used_keys}
 use Rattle.walrus_parsed_bodies.specs.walrus_parsed_items.walrus_into_laws.walrus_meaning.walrus_local_function.walrus_body_locals.wasm_normal_form.Locals.{Key, in_order, numbered}
 use Rattle.walrus_parsed_bodies.specs.walrus_parsed_items.walrus_into_laws.walrus_meaning.walrus_local_function.walrus_body_locals.wasm_normal_form.Normal.{normal_ops}

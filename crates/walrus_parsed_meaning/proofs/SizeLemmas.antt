@@ -15,7 +15,7 @@ use Rattle.walrus_parsed_groups.specs.walrus_parsed_linked.walrus_parsed_items.w
 use Rattle.walrus_parsed_groups.specs.walrus_parsed_linked.walrus_parsed_items.walrus_parse.walrus_file_bodies.walrus_items_into.wasm_module_rules.Linked.{Each}
 use Rattle.walrus_parsed_groups.specs.walrus_parsed_linked.walrus_parsed_items.walrus_parse.walrus_file_bodies.walrus_items_into.wasm_module_rules.Reading.{entity_kind, kind_number}
 use Rattle.walrus_parsed_groups.specs.walrus_parsed_linked.walrus_parsed_items.walrus_parse.walrus_file_bodies.walrus_items_into.wasm_module_rules.wasm_modules.Modules.{Reads, module_of}
-use Rattle.walrus_parsed_groups.specs.walrus_parsed_linked.walrus_pairing.wasm_immediates.wasm_reader.Spelled.{spelled_unsigned}
+use Rattle.walrus_parsed_groups.specs.walrus_parsed_linked.walrus_pairing.wasm_operators.wasm_reader.Spelled.{spelled_unsigned}
 use Rattle.walrus_parsed_groups.specs.walrus_parsed_linked.walrus_parsed_items.wasm_import_links.wasm_ruled_modules.Keeping.{EntriesKeep, file_kept}
 use Rattle.walrus_parsed_groups.specs.walrus_parsed_linked.walrus_parsed_items.wasm_import_links.wasm_ruled_modules.Named.{room_spells}
 use Rattle.walrus_parsed_groups.specs.walrus_parsed_linked.walrus_parsed_items.walrus_parse.walrus_file_bodies.walrus_items_into.wasm_sections.Entities.{Entity, FunctionOf, TableOf, MemoryOf, GlobalOf, TagOf, ImportEntry, MemoryType, TableEntry, TableType, add_entity, add_import, add_memory, add_table, entity, import_entry, import_of, initialised, memory_entry, memory_of, memory_once, table_apart, table_entry, table_of, table_once, table_some, table_type, table_wants, with_import}

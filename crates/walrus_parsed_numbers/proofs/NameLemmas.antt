@@ -3,19 +3,19 @@ use Rattle.std.specs.Prelude.{ℕ, ◌≡◌, ◌==◌, ◌||◌, Bool, true, fa
 use Rattle.std.specs.List.{AllByRecursion, flat_map, list_any}
 use Rattle.std.proofs.Common.{ap, ◌∙◌}
 use Rattle.std.proofs.lemmas.Bool.{eq-eqb}
-use Rattle.wasm_body_grammar.specs.wasm_operator_bytes.NameLaws.{RenamesTwice, after}
-use Rattle.wasm_body_grammar.specs.wasm_operator_bytes.Names.{Renaming, renamed_block, renamed_clause, renamed_heap, renamed_item, renamed_value}
-use Rattle.wasm_body_grammar.specs.wasm_operator_bytes.wasm_immediates.Items.{Types, Functions, Tables, Memories, Tags, Globals, ElementSegments, DataSegments, Locals, Labels, Item, Names, Number, S32, S64, Bits, Byte, Bytes, Heap, Block, Access, ManyLabels, ManyValues, ManyClauses}
-use Rattle.wasm_body_grammar.specs.wasm_operator_bytes.wasm_immediates.declared.block_type.BlockType.{BlockType}
-use Rattle.wasm_body_grammar.specs.wasm_operator_bytes.wasm_immediates.declared.block_type.BlockType.TheVariants as blocks
-use Rattle.wasm_body_grammar.specs.wasm_operator_bytes.wasm_immediates.declared.clause.Clause.{Clause}
-use Rattle.wasm_body_grammar.specs.wasm_operator_bytes.wasm_immediates.declared.clause.Clause.TheVariants as handlers
-use Rattle.wasm_body_grammar.specs.wasm_operator_bytes.wasm_ref_types.declared.heap.HeapType.{HeapType}
-use Rattle.wasm_body_grammar.specs.wasm_operator_bytes.wasm_ref_types.declared.heap.HeapType.TheVariants.{Abstract, Concrete, Exact}
-use Rattle.wasm_body_grammar.specs.wasm_operator_bytes.wasm_ref_types.declared.index.UnpackedIndex.TheVariants.{Module, RecGroup, Id}
-use Rattle.wasm_body_grammar.specs.wasm_operator_bytes.wasm_ref_types.declared.value.ValType.{ValType}
-use Rattle.wasm_body_grammar.specs.wasm_operator_bytes.wasm_ref_types.declared.value.ValType.TheVariants.{I32, I64, F32, F64, V128, Ref}
-use Rattle.wasm_body_grammar.specs.wasm_operator_bytes.wasm_ref_types.Reference.{reference}
+use Rattle.wasm_body_grammar.specs.wasm_operators.NameLaws.{RenamesTwice, after}
+use Rattle.wasm_body_grammar.specs.wasm_operators.Names.{Renaming, renamed_block, renamed_clause, renamed_heap, renamed_item, renamed_value}
+use Rattle.wasm_body_grammar.specs.wasm_operators.Items.{Types, Functions, Tables, Memories, Tags, Globals, ElementSegments, DataSegments, Locals, Labels, Item, Names, Number, S32, S64, Bits, Byte, Bytes, Heap, Block, Access, ManyLabels, ManyValues, ManyClauses}
+use Rattle.wasm_body_grammar.specs.wasm_operators.declared.block_type.BlockType.{BlockType}
+use Rattle.wasm_body_grammar.specs.wasm_operators.declared.block_type.BlockType.TheVariants as blocks
+use Rattle.wasm_body_grammar.specs.wasm_operators.declared.clause.Clause.{Clause}
+use Rattle.wasm_body_grammar.specs.wasm_operators.declared.clause.Clause.TheVariants as handlers
+use Rattle.wasm_body_grammar.specs.wasm_operators.wasm_ref_types.declared.heap.HeapType.{HeapType}
+use Rattle.wasm_body_grammar.specs.wasm_operators.wasm_ref_types.declared.heap.HeapType.TheVariants.{Abstract, Concrete, Exact}
+use Rattle.wasm_body_grammar.specs.wasm_operators.wasm_ref_types.declared.index.UnpackedIndex.TheVariants.{Module, RecGroup, Id}
+use Rattle.wasm_body_grammar.specs.wasm_operators.wasm_ref_types.declared.value.ValType.{ValType}
+use Rattle.wasm_body_grammar.specs.wasm_operators.wasm_ref_types.declared.value.ValType.TheVariants.{I32, I64, F32, F64, V128, Ref}
+use Rattle.wasm_body_grammar.specs.wasm_operators.wasm_ref_types.Reference.{reference}
 use Rattle.walrus_parsed_locals.specs.walrus_parsed_bodies.walrus_parsed_items.walrus_into_laws.walrus_meaning.walrus_local_function.walrus_body_locals.wasm_normal_form.Bodies.{local_in, locals_named, renamed_local, with_locals}
 use Rattle.walrus_parsed_locals.specs.walrus_parsed_bodies.walrus_parsed_items.walrus_into_laws.walrus_meaning.walrus_local_function.walrus_body_locals.wasm_normal_form.Roles.{Placed, placed}
 use Rattle.walrus_parsed_locals.specs.walrus_parsed_bodies.walrus_parsed_items.walrus_body_trees.Laws.{renamed}

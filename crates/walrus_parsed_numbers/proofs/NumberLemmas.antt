@@ -4,7 +4,7 @@ use Rattle.std.specs.List.{AllZip}
 use Rattle.std.proofs.Common.{ap, ◌∙◌, subst}
 use Rattle.wasm_body_grammar.specs.Rules.{Around}
 use Rattle.wasm_body_grammar.specs.wasm_grammar.Modules as grammar
-use Rattle.wasm_body_grammar.specs.wasm_operator_bytes.wasm_immediates.Items.{Locals}
+use Rattle.wasm_body_grammar.specs.wasm_operators.Items.{Locals}
 use Rattle.walrus_parsed_locals.specs.walrus_parsed_bodies.walrus_parsed_items.walrus_parse.walrus_file_bodies.walrus_items_into.wasm_module_rules.wasm_modules.Modules.{around}
 use Rattle.walrus_parsed_locals.specs.walrus_parsed_bodies.walrus_parsed_items.walrus_into_laws.walrus_meaning.walrus_local_function.walrus_body_locals.wasm_normal_form.Bodies.{new_number}
 use Rattle.walrus_parsed_locals.specs.walrus_parsed_bodies.walrus_parsed_items.walrus_into_laws.walrus_meaning.walrus_local_function.walrus_body_locals.wasm_normal_form.Locals.{Key}

@@ -20,7 +20,7 @@ use Rattle.walrus_body_names.specs.walrus_pairing.walrus_instr.declared.seq.Inst
 use Rattle.walrus_body_names.specs.walrus_pairing.walrus_instr.declared.seq.InstrSeqType.TheVariants.{Simple, MultiValue}
 use Rattle.walrus_body_names.specs.walrus_pairing.walrus_operators.wasm_operators.Operators.{Seen}
 use Rattle.walrus_body_names.specs.walrus_pairing.walrus_operators.wasm_operators.declared.op_code.OpCode.{OpCode}
-use Rattle.walrus_body_names.specs.walrus_pairing.wasm_immediates.Items.{Types}
+use Rattle.walrus_body_names.specs.walrus_pairing.wasm_operators.Items.{Types}
 use Rattle.walrus_body_names.specs.walrus_tree.Text.{Piece, Operator, Else, Catch, CatchAll, Delegate, End, operators}
 use Rattle.walrus_emission_laws.specs.Laws.{LocalsAreMeant}
 use Rattle.walrus_pairing.specs.Laws.{all}

@@ -9,7 +9,7 @@ use walrus_parsed_locals::laws::bodies_of_read_modules_have_their_locals;
 use walrus_parsed_locals::parsed_bodies::laws::{
     bodies_of_read_modules_mean_theirs, functions_of_read_modules_are_whole,
 };
-use wasm_operator_bytes::laws::renamings_compose;
+use wasm_operators::laws::renamings_compose;
 
 /// The locals that are declared for a body, of those that its text names, are those that it means, whether or not it can be written.
 pub fn used_locals_are_meant()

@@ -20,7 +20,7 @@ use Rattle.walrus_parsed_groups.specs.Files.{sent}
 use Rattle.walrus_parsed_groups.specs.Groups.{handlers_in}
 use Rattle.walrus_parsed_groups.specs.Handlers.{signature_of, signatures}
 use Rattle.walrus_parsed_groups.proofs.walrus_parsed_linked.walrus_parsed_items.ListLemmas.{AllOf, all_join, some_is}
-use Rattle.walrus_parsed_groups.specs.walrus_parsed_linked.walrus_parsed_items.walrus_into_laws.walrus_meaning.walrus_linked.walrus_body_writer.walrus_pairing.wasm_immediates.wasm_features.declared.WasmFeatures.{WasmFeatures}
+use Rattle.walrus_parsed_groups.specs.walrus_parsed_linked.walrus_parsed_items.walrus_into_laws.walrus_meaning.walrus_linked.walrus_body_writer.walrus_pairing.wasm_operators.wasm_features.declared.WasmFeatures.{WasmFeatures}
 use Rattle.walrus_parsed_groups.specs.walrus_parsed_linked.walrus_parsed_items.walrus_into_laws.walrus_meaning.walrus_linked.walrus_body_writer.walrus_pairing.walrus_instr.BlockTypes.{Makes, picked, short_form}
 use Rattle.walrus_parsed_groups.specs.walrus_parsed_linked.walrus_parsed_items.walrus_into_laws.walrus_meaning.walrus_linked.walrus_body_writer.walrus_pairing.walrus_instr.declared.seq.InstrSeqType.{InstrSeqType}
 use Rattle.walrus_parsed_groups.specs.walrus_parsed_linked.walrus_parsed_items.walrus_into_laws.walrus_meaning.walrus_linked.walrus_body_writer.walrus_pairing.walrus_instr.declared.seq.InstrSeqType.TheVariants.{Simple, MultiValue}

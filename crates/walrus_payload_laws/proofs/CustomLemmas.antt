@@ -2,7 +2,7 @@
 use Rattle.std.specs.Prelude.{ℕ, ◌≡◌, ◌<◌, ◌≤◌, ◌^◌, true, List, ◌∷◌, ◌++◌, length, refl}
 use Rattle.std.specs.Str.{is_utf8}
 use Rattle.std.proofs.Common.{◌∙◌, ap, sym, subst, arith}
-use Rattle.wasm_operator_bytes.specs.Bytes.{unsigned_bytes}
+use Rattle.wasm_operators.specs.Bytes.{unsigned_bytes}
 use Rattle.wasm_reader.specs.Shortest.{u32_bytes}
 use Rattle.wasm_section_bytes.specs.Sections.{custom_writer}
 use Rattle.wasm_name_payloads.specs.Names as names

@@ -4,8 +4,8 @@ use Rattle.std.proofs.Common.{ap, ◌∙◌, arith, inl, inr}
 use Rattle.std.proofs.lemmas.List.{append_assoc, length-append}
 use Rattle.walrus_errors.specs.declared.error.ModuleError.{ModuleError}
 use Rattle.walrus_errors.specs.declared.error.ModuleError.TheVariants.{Memory}
-use Rattle.walrus_operator_writer.specs.Appended.{Keeps}
-use Rattle.walrus_operator_writer.proofs.Keeps.{keeps_all, keeps_on}
+use Rattle.walrus_operators.specs.Appended.{Keeps}
+use Rattle.walrus_operators.proofs.Keeps.{keeps_all, keeps_on}
 use Rattle.walrus_payload_writers.specs.Writes.{IsTooMany, Refused, SizeRefused, Writes, custom_bytes}
 use Rattle.wasm_reader.specs.Shortest.{u32_bytes}
 use Rattle.wasm_name_payloads.specs.Written.{name_bytes}

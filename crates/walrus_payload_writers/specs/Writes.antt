@@ -5,7 +5,7 @@ use Rattle.wasm_reader.specs.Shortest.{u32_bytes}
 use Rattle.wasm_name_payloads.specs.Written.{name_bytes, part_bytes}
 use Rattle.walrus_errors.specs.declared.error.ModuleError.{ModuleError}
 use Rattle.walrus_errors.specs.declared.error.ModuleError.TheVariants.{Memory, OutputLimit}
-use Rattle.walrus_operator_writer.specs.Appended.{Keeps}
+use Rattle.walrus_operators.specs.Appended.{Keeps}
 
 -- the limit of a file is passed by so many bytes alone
 abbrev pub IsTooMany : ℕ → ModuleError → Type 0

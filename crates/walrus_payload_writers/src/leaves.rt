@@ -6,7 +6,7 @@ ghost use Rattle.wasm_name_payloads.specs.Written.{name_bytes, part_bytes};
 ghost use Rattle.walrus_payload_writers.specs.Writes.{Writes, SizeWritten, custom_bytes};
 
 use walrus_errors::{ModuleError, Result};
-use walrus_operator_writer::write_unsigned;
+use walrus_operators::write_unsigned;
 use wasm_formats::Limited;
 
 // The most bytes that a file may have.

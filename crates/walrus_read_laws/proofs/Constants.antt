@@ -14,14 +14,14 @@ use Rattle.walrus_tables_into.specs.walrus_meaning.walrus_local_function.walrus_
 use Rattle.walrus_tables_into.specs.walrus_meaning.walrus_local_function.walrus_body_locals.wasm_grammar.wasm_operators.Kinds.{forms}
 use Rattle.walrus_tables_into.specs.walrus_meaning.walrus_local_function.walrus_body_locals.wasm_grammar.wasm_operators.Operators.{Seen, kind_of, op_code}
 use Rattle.walrus_tables_into.specs.walrus_meaning.walrus_local_function.walrus_body_locals.wasm_grammar.wasm_operators.Table.{call_rows, plain_rows, fb_rows, fd_rows}
-use Rattle.walrus_tables_into.specs.walrus_meaning.walrus_local_function.walrus_body_locals.wasm_grammar.wasm_operators.wasm_immediates.Items.{Space, Types, Functions, Globals, Item, Names, Number, S32, S64, Bits, Bytes, Heap}
+use Rattle.walrus_tables_into.specs.walrus_meaning.walrus_local_function.walrus_body_locals.wasm_grammar.wasm_operators.Items.{Space, Types, Functions, Globals, Item, Names, Number, S32, S64, Bits, Bytes, Heap}
 use Rattle.walrus_tables_into.specs.walrus_meaning.walrus_local_function.walrus_body_locals.wasm_grammar.wasm_operators.wasm_ref_types.declared.heap.AbstractHeapType.{AbstractHeapType}
 use Rattle.walrus_tables_into.specs.walrus_meaning.walrus_local_function.walrus_body_locals.wasm_grammar.wasm_operators.wasm_ref_types.declared.heap.AbstractHeapType.TheVariants as abstracts
 use Rattle.walrus_tables_into.specs.walrus_meaning.walrus_local_function.walrus_body_locals.wasm_grammar.wasm_operators.wasm_ref_types.declared.heap.HeapType.{HeapType as WrittenHeap}
 use Rattle.walrus_tables_into.specs.walrus_meaning.walrus_local_function.walrus_body_locals.wasm_grammar.wasm_operators.wasm_ref_types.declared.heap.HeapType.TheVariants.{Abstract as WAbstract, Concrete as WConcrete, Exact as WExact}
 use Rattle.walrus_tables_into.specs.walrus_meaning.walrus_local_function.walrus_body_locals.wasm_grammar.wasm_operators.wasm_ref_types.declared.index.UnpackedIndex.TheVariants.{Module, RecGroup, Id}
 use Rattle.wasm_spelled_modules.specs.wasm_module_rules.Keeps.{must_holds, first_none}
-use Rattle.wasm_spelled_modules.specs.wasm_operator_bytes.Ranges.{Of, ItemsFit, OperatorFits}
+use Rattle.wasm_spelled_modules.specs.wasm_operators.Ranges.{Of, ItemsFit, OperatorFits}
 use Rattle.walrus_tables_into.specs.walrus_sections_into.walrus_forms.declared.value.AbstractHeapType.TheVariants as heaps
 use Rattle.walrus_tables_into.specs.walrus_sections_into.walrus_forms.declared.value.HeapType.{HeapType}
 use Rattle.walrus_tables_into.specs.walrus_sections_into.walrus_forms.declared.value.HeapType.TheVariants.{Abstract, Concrete, Exact}

@@ -26,7 +26,7 @@ use Rattle.walrus_tables_into.specs.walrus_sections_into.walrus_forms.declared.v
 use Rattle.walrus_tables_into.specs.walrus_sections_into.walrus_operators.Operators.{seen}
 use Rattle.walrus_tables_into.specs.walrus_sections_into.walrus_operators.declared.operator.Operator.{Operator}
 use Rattle.walrus_tables_into.specs.walrus_sections_into.walrus_pairing.Looks.{Look}
-use Rattle.walrus_tables_into.specs.walrus_sections_into.wasm_immediates.Items as immediates
+use Rattle.walrus_tables_into.specs.walrus_sections_into.wasm_operators.Items as immediates
 use Rattle.walrus_tables_into.specs.walrus_sections_into.declared.error.IntoError.TheVariants.{Unknown}
 use Rattle.walrus_tables_into.specs.walrus_sections_into.Consts.{OpLacks}
 use Rattle.walrus_tables_into.specs.walrus_sections_into.Lacks.{ItemLacks, StartLacks, PlaceLacks}

@@ -8,7 +8,7 @@ use Rattle.wasm_reader.specs.Laws.{StaysWithin}
 use Rattle.wasm_reader.specs.Reading.{Reading, Reads, plain}
 use Rattle.wasm_reader.specs.Numbers.{unsigned_at}
 use Rattle.wasm_reader.specs.Finals.{unsigned_final}
-use Rattle.wasm_immediates.specs.Readings.{mapped}
+use Rattle.wasm_operators.specs.Readings.{mapped}
 use Rattle.wasm_operators.specs.declared.op_code.OpCode.{OpCode}
 use Rattle.wasm_operators.specs.Operators.{is_prefix, op_code, code_at}
 use Rattle.wasm_grammar.specs.wasm_formats.Stops.{Count, Stop, stop, can_end, Parsing, ◌>>=◌}

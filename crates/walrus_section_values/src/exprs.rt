@@ -18,7 +18,7 @@ ghost use Rattle.walrus_section_reader.specs.Faults.{trouble_of};
 ghost use Rattle.walrus_section_reader.specs.Parses.{Parses, ParsesExactly};
 ghost use Rattle.walrus_section_values.specs.Globals.{known_of, expr_of};
 ghost use Rattle.walrus_section_values.specs.Constants.{IsConstantKind};
-ghost use Rattle.wasm_immediates.specs.Readings.{items_at};
+ghost use Rattle.wasm_operators.specs.Readings.{items_at};
 ghost use Rattle.wasm_operators.specs.Kinds.{forms};
 ghost use Rattle.wasm_reader.specs.Reading.{Reads};
 
@@ -88,7 +88,7 @@ fn read_code(alloc: Alloc, reader: &mut BinaryReader<'_>) -> Result<OpCode>
 }
 
 // The immediates of a kind that constant expressions have.
-#[tactic(auto, unfolding(wasm_immediates::specs::Readings::items_at, wasm_immediates::specs::Readings::item_at))]
+#[tactic(auto, unfolding(wasm_operators::specs::Readings::items_at, wasm_operators::specs::Readings::item_at))]
 fn read_kind(
     kind: Kind,
     alloc: Alloc,
@@ -140,7 +140,7 @@ fn read_kind(
     }
 }
 
-#[tactic(auto, unfolding(wasm_immediates::specs::Readings::items_at, wasm_immediates::specs::Readings::item_at))]
+#[tactic(auto, unfolding(wasm_operators::specs::Readings::items_at, wasm_operators::specs::Readings::item_at))]
 fn read_vector(reader: &mut BinaryReader<'_>) -> wasm_reader::Result<Immediates>
     ensures { Reads (items_at reader.old.window.features (forms Kind.Vector)) items_of reader.old reader.new result }
 {

@@ -5,8 +5,8 @@ use Rattle.std.specs.List.{AllByRecursion, AllZip}
 use Rattle.std.proofs.Common.{ap, ◌∙◌}
 use Rattle.wasm_features.specs.declared.WasmFeatures.{WasmFeatures}
 use Rattle.wasm_operators.specs.Operators.{Seen}
-use Rattle.wasm_operator_bytes.specs.Names.{Renaming, renamed_operator}
-use Rattle.wasm_operator_bytes.specs.Ranges.{OperatorFits}
+use Rattle.wasm_operators.specs.Names.{Renaming, renamed_operator}
+use Rattle.wasm_operators.specs.Ranges.{OperatorFits}
 use Rattle.walrus_operators.specs.declared.operator.Operator.{Operator}
 use Rattle.walrus_operators.specs.Operators.{seen}
 use Rattle.walrus_instr.specs.declared.const_expr.ConstOp.{ConstOp}

@@ -2,7 +2,7 @@
 use Rattle.std.specs.Prelude.{ℕ, ◌≡◌, Option, Some, None, string_bytes}
 use Rattle.wasm_formats.specs.declared.fault.Space.{Space}
 use Rattle.wasm_formats.specs.declared.fault.Space.TheVariants as spaces
-use Rattle.wasm_immediates.specs.Items.{Functions, Tables, Memories, Globals, Tags}
+use Rattle.wasm_operators.specs.Items.{Functions, Tables, Memories, Globals, Tags}
 use Rattle.walrus_pairing.specs.Looks.{Look}
 use Rattle.walrus_meaning.specs.walrus_linked.walrus_module_items.declared.export.Export.{Export}
 use Rattle.walrus_meaning.specs.walrus_linked.walrus_module_items.declared.export.ExportItem.{ExportItem}

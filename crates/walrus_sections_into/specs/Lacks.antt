@@ -3,7 +3,7 @@ use Rattle.std.specs.Prelude.{ℕ, ◌≡◌, ◌≤◌, ◌^◌, ◌⊎◌, Opt
 use Rattle.std.specs.List.{Any}
 use Rattle.wasm_formats.specs.declared.fault.Space.{Space}
 use Rattle.wasm_formats.specs.declared.fault.Space.TheVariants as spaces
-use Rattle.wasm_immediates.specs.Items.{Types, Functions, Tables, Memories, Globals, Tags}
+use Rattle.wasm_operators.specs.Items.{Types, Functions, Tables, Memories, Globals, Tags}
 use Rattle.walrus_pairing.specs.Looks.{Look}
 use Rattle.walrus_known_sections.specs.declared.items.Data.{Data}
 use Rattle.walrus_known_sections.specs.declared.items.Export.{Export}

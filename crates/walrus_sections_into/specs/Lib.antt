@@ -18,4 +18,4 @@ pub use Rattle.walrus_known_sections.specs as walrus_known_sections
 pub use Rattle.walrus_meaning.specs.walrus_linked.walrus_module_items as walrus_module_items
 pub use Rattle.walrus_operators.specs as walrus_operators
 pub use Rattle.walrus_pairing.specs as walrus_pairing
-pub use Rattle.wasm_immediates.specs as wasm_immediates
+pub use Rattle.wasm_operators.specs as wasm_operators

@@ -1,6 +1,6 @@
 -- Data segments, as they were read and in a module.
 use Rattle.std.specs.Prelude.{ℕ, ◌≡◌, Bool, true, false, List, [], ◌∷◌, Option, Some, None}
-use Rattle.wasm_immediates.specs.Items.{Memories}
+use Rattle.wasm_operators.specs.Items.{Memories}
 use Rattle.walrus_instr.specs.Constants.{ops_of}
 use Rattle.walrus_pairing.specs.Looks.{Look}
 use Rattle.walrus_meaning.specs.walrus_linked.walrus_module_items.declared.data.Data.{Data}

@@ -1,6 +1,6 @@
 -- Tags, as they were read and in a module.
 use Rattle.std.specs.Prelude.{ℕ, ◌≡◌, Some, None}
-use Rattle.wasm_immediates.specs.Items.{Types}
+use Rattle.wasm_operators.specs.Items.{Types}
 use Rattle.walrus_pairing.specs.Looks.{Look}
 use Rattle.walrus_meaning.specs.walrus_linked.Linked.{tag_import}
 use Rattle.walrus_meaning.specs.walrus_linked.walrus_module_items.declared.tag.Tag.{Tag}

@@ -2,7 +2,7 @@
 
 ghost use Rattle.std.specs.Prelude.{◌≡◌, ◌≤◌, ◌^◌, IfOk, IfErr, Some, None};
 ghost use Rattle.std.specs.Option.{ok_or};
-ghost use Rattle.wasm_immediates.specs.Items.{Functions, Globals, Memories, Tables, Tags, Types};
+ghost use Rattle.wasm_operators.specs.Items.{Functions, Globals, Memories, Tables, Tags, Types};
 ghost use Rattle.walrus_index_maps.specs.Views.{ids};
 ghost use Rattle.walrus_sections_into.specs.Becomes.{look_of};
 ghost use Rattle.walrus_sections_into.specs.declared.error.IntoError.TheVariants.{Memory, Unknown};

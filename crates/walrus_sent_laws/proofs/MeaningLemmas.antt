@@ -12,8 +12,8 @@ use Rattle.walrus_meaning.specs.Meaning.{means, own_function, own_origin}
 use Rattle.walrus_meaning.specs.Words.{own_block}
 use Rattle.walrus_meaning.specs.walrus_body_writer.walrus_pairing.Write.{seen_of}
 use Rattle.walrus_meaning.specs.walrus_body_writer.walrus_pairing.walrus_codes.Runs.{byte}
-use Rattle.walrus_meaning.specs.walrus_body_writer.walrus_pairing.wasm_immediates.Items.{Block, ManyClauses}
-use Rattle.walrus_meaning.specs.walrus_body_writer.walrus_pairing.wasm_immediates.declared.block_type.BlockType.{BlockType}
+use Rattle.walrus_meaning.specs.walrus_body_writer.walrus_pairing.wasm_operators.Items.{Block, ManyClauses}
+use Rattle.walrus_meaning.specs.walrus_body_writer.walrus_pairing.wasm_operators.declared.block_type.BlockType.{BlockType}
 use Rattle.walrus_meaning.specs.walrus_linked.walrus_local_function.declared.local_function.LocalFunction.{LocalFunction}
 use Rattle.walrus_meaning.specs.walrus_linked.walrus_module.Parts.{Module, parts}
 use Rattle.walrus_meaning.specs.walrus_linked.walrus_module.walrus_builder.Functions.{seqs_of}

@@ -3,7 +3,7 @@ use Rattle.std.proofs.Common.{ℕ, ◌≡◌, ◌⊎◌, ◌≤◌, ◌+◌, ◌
 use Rattle.std.specs.List.{AllByRecursion, AllZip}
 use Rattle.wasm_normal_modules.specs.Modules.{MeetsRules, OriginPicked}
 use Rattle.wasm_normal_modules.specs.wasm_ruled_renamed.wasm_ruled_normal.Normal.{OpensPicked}
-use Rattle.wasm_normal_modules.specs.wasm_ruled_renamed.wasm_ruled_normal.wasm_normal_form.wasm_immediates.wasm_features.declared.WasmFeatures.{WasmFeatures}
+use Rattle.wasm_normal_modules.specs.wasm_ruled_renamed.wasm_ruled_normal.wasm_normal_form.wasm_operators.wasm_features.declared.WasmFeatures.{WasmFeatures}
 use Rattle.wasm_normal_modules.specs.wasm_ruled_renamed.wasm_ruled_normal.wasm_ruled_modules.Rules.{AreExpressed, AreNamed, AreOperators, GlobalsSee, HasBody, IsBody, IsInit, IsPlaced, ItemsKnown, LocalsBelow, OriginRuled, around_bodies, bare_origin, bare_slot, is_imported, memory_wide, table_wide}
 use Rattle.wasm_normal_modules.specs.wasm_ruled_renamed.wasm_ruled_normal.wasm_ruled_modules.wasm_module_rules.Linked.{AreListed, Each, IsBelow, IsFunctionType, IsLinked}
 use Rattle.wasm_normal_modules.specs.wasm_ruled_renamed.wasm_ruled_normal.wasm_ruled_modules.wasm_module_rules.wasm_modules.wasm_body_grammar.Bodies.{frames_of, is_closed, most_locals}

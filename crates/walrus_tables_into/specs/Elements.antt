@@ -2,7 +2,7 @@
 use Rattle.std.specs.Prelude.{ℕ, ◌≡◌, ◌⊎◌, Some, None, Ok, Err}
 use Rattle.std.specs.Global.{Vec}
 use Rattle.std.specs.List.{AllZip, Any}
-use Rattle.walrus_sections_into.specs.wasm_immediates.Items.{Functions, Tables}
+use Rattle.walrus_sections_into.specs.wasm_operators.Items.{Functions, Tables}
 use Rattle.walrus_sections_into.specs.walrus_forms.Records.{ref_of}
 use Rattle.walrus_sections_into.specs.walrus_instr.Constants.{ops_of}
 use Rattle.walrus_sections_into.specs.walrus_instr.declared.const_expr.ConstExpr.{ConstExpr}

@@ -8,7 +8,7 @@ use Rattle.walrus_sections_into.specs.walrus_forms.declared.value.RefType.{RefTy
 use Rattle.walrus_sections_into.specs.walrus_forms.declared.value.ValType.{ValType}
 use Rattle.walrus_sections_into.specs.walrus_forms.declared.value.ValType.TheVariants.{I32, I64, F32, F64, V128, Ref}
 use Rattle.walrus_sections_into.specs.walrus_forms.Renaming.{renamed_heap, renamed_ref, renamed_value}
-use Rattle.walrus_sections_into.specs.wasm_immediates.Items.{Types}
+use Rattle.walrus_sections_into.specs.wasm_operators.Items.{Types}
 use Rattle.walrus_sections_into.specs.walrus_pairing.Looks.{Look}
 use Rattle.walrus_sections_into.specs.Becomes.{renames_by}
 use Rattle.walrus_sections_into.specs.declared.error.IntoError.{IntoError}

@@ -6,10 +6,10 @@ use Rattle.wasm_grammar.specs.wasm_formats.wasm_reader.declared.error.ErrorKind.
 use Rattle.wasm_grammar.specs.wasm_formats.wasm_reader.Numbers.{Spells, unsigned, unsigned_at}
 use Rattle.wasm_grammar.specs.wasm_formats.wasm_reader.Spellings.{number_taken}
 use Rattle.wasm_grammar.specs.wasm_formats.wasm_reader.Finals.{unsigned_final}
-use Rattle.wasm_operator_bytes.specs.wasm_ref_types.ReadTypes.{value_at}
-use Rattle.wasm_operator_bytes.specs.wasm_ref_types.TypeSpellings.{SpellsValue}
-use Rattle.wasm_operator_bytes.specs.wasm_ref_types.TypesTaken.{value_taken}
-use Rattle.wasm_operator_bytes.specs.wasm_ref_types.TypesFinal.{value_begins}
+use Rattle.wasm_operators.specs.wasm_ref_types.ReadTypes.{value_at}
+use Rattle.wasm_operators.specs.wasm_ref_types.TypeSpellings.{SpellsValue}
+use Rattle.wasm_operators.specs.wasm_ref_types.TypesTaken.{value_taken}
+use Rattle.wasm_operators.specs.wasm_ref_types.TypesFinal.{value_begins}
 use Rattle.wasm_grammar.specs.walrus_forms.Values.{value_name}
 use Rattle.wasm_grammar.specs.wasm_operators.Operators.{Seen, operator_at}
 use Rattle.wasm_grammar.specs.wasm_operators.Spellings.{SpellsEither}

@@ -10,5 +10,4 @@ pub mod Numbers
 -- Passed on to crates above, which then list this one alone.
 pub use Rattle.wasm_grammar.specs.wasm_formats as wasm_formats
 pub use Rattle.wasm_grammar.specs as wasm_grammar
-pub use Rattle.wasm_operator_bytes.specs as wasm_operator_bytes
-pub use Rattle.wasm_grammar.specs.wasm_operators as wasm_operators
+pub use Rattle.wasm_operators.specs as wasm_operators

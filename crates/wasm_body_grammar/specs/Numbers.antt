@@ -5,14 +5,14 @@ use Rattle.std.specs.Option.{is_some}
 use Rattle.std.proofs.Common.{sym, ◌∙◌, subst, arith, inl, inr}
 use Rattle.wasm_grammar.specs.walrus_forms.Forms.{Form, FunctionForm, StructForm, ArrayForm}
 use Rattle.wasm_grammar.specs.walrus_forms.Kinds.{Kind}
-use Rattle.wasm_operator_bytes.specs.wasm_immediates.declared.block_type.BlockType.{BlockType}
-use Rattle.wasm_operator_bytes.specs.wasm_immediates.declared.block_type.BlockType.TheVariants as blocks
-use Rattle.wasm_operator_bytes.specs.wasm_immediates.Items as immediates
-use Rattle.wasm_operator_bytes.specs.wasm_immediates.Items.{Item, Names, Number, S32, S64, Bits, Byte, Bytes, Heap, Block, Access, ManyLabels, ManyValues, ManyClauses}
+use Rattle.wasm_operators.specs.declared.block_type.BlockType.{BlockType}
+use Rattle.wasm_operators.specs.declared.block_type.BlockType.TheVariants as blocks
+use Rattle.wasm_operators.specs.Items as immediates
+use Rattle.wasm_operators.specs.Items.{Item, Names, Number, S32, S64, Bits, Byte, Bytes, Heap, Block, Access, ManyLabels, ManyValues, ManyClauses}
 use Rattle.wasm_grammar.specs.wasm_operators.declared.entry.Flow.{Flow}
 use Rattle.wasm_grammar.specs.wasm_operators.declared.entry.Flow.TheVariants as flows
 use Rattle.wasm_grammar.specs.wasm_operators.Operators.{Seen, flow_of}
-use Rattle.wasm_operator_bytes.specs.Names.{Name, operator_names}
+use Rattle.wasm_operators.specs.Names.{Name, operator_names}
 use Rattle.wasm_grammar.specs.wasm_formats.Stops.{Trouble, Read, Header, SectionOrder, SectionSize, Count, Index, TypeForm, ConstExpr, OffsetType, Nesting, Position, Operator, Unsupported, DuplicateExport, Bounds, Limit}
 use Rattle.wasm_grammar.specs.wasm_formats.declared.fault.Form.TheVariants as unsupported
 use Rattle.wasm_grammar.specs.States.{types_of}

@@ -8,13 +8,13 @@ use Rattle.wasm_grammar.specs.walrus_forms.Forms.{Form, FunctionForm, StructForm
 use Rattle.wasm_grammar.specs.walrus_forms.Kinds.{Kind, function_kind}
 use Rattle.wasm_grammar.specs.walrus_forms.Renaming.{renamed_kind}
 use Rattle.wasm_grammar.specs.walrus_forms.Same.{same_kind}
-use Rattle.wasm_operator_bytes.specs.wasm_immediates.declared.block_type.BlockType.{BlockType}
-use Rattle.wasm_operator_bytes.specs.wasm_immediates.declared.block_type.BlockType.TheVariants as blocks
-use Rattle.wasm_operator_bytes.specs.wasm_immediates.declared.memory_access.MemoryAccess.{MemoryAccess}
-use Rattle.wasm_operator_bytes.specs.wasm_immediates.Items as immediates
-use Rattle.wasm_operator_bytes.specs.wasm_immediates.Items.{Item, Heap, Block, Access, ManyValues}
+use Rattle.wasm_operators.specs.declared.block_type.BlockType.{BlockType}
+use Rattle.wasm_operators.specs.declared.block_type.BlockType.TheVariants as blocks
+use Rattle.wasm_operators.specs.declared.memory_access.MemoryAccess.{MemoryAccess}
+use Rattle.wasm_operators.specs.Items as immediates
+use Rattle.wasm_operators.specs.Items.{Item, Heap, Block, Access, ManyValues}
 use Rattle.wasm_grammar.specs.wasm_operators.Operators.{Seen, flow_of}
-use Rattle.wasm_operator_bytes.specs.Names.{Name, operator_names}
+use Rattle.wasm_operators.specs.Names.{Name, operator_names}
 use Rattle.wasm_grammar.specs.wasm_formats.declared.fault.Space.{Space}
 use Rattle.wasm_grammar.specs.wasm_formats.declared.fault.Space.TheVariants as spaces
 use Rattle.wasm_grammar.specs.wasm_formats.declared.fault.Form.TheVariants as unsupported

@@ -11,9 +11,9 @@ use Rattle.walrus_forms.specs.declared.value.ValType.TheVariants.{I32, I64, Ref}
 use Rattle.walrus_forms.specs.Forms.{FunctionForm}
 use Rattle.walrus_forms.specs.Kinds.{Kind, function_kind, struct_kind, declared_kind}
 use Rattle.walrus_forms.specs.Records.{TypeGroup}
-use Rattle.wasm_immediates.specs.declared.memory_access.MemoryAccess.{MemoryAccess}
+use Rattle.wasm_operators.specs.declared.memory_access.MemoryAccess.{MemoryAccess}
 use Rattle.wasm_operators.specs.Operators.{Seen}
-use Rattle.wasm_immediates.specs.Items.{Item}
+use Rattle.wasm_operators.specs.Items.{Item}
 use Rattle.wasm_grammar.specs.Modules.{Function, Memory, Own, Passive, Functions, Module, Body, Placed, empty}
 use Rattle.wasm_body_grammar.specs.Rules.{Around}
 

@@ -4,8 +4,8 @@ use Rattle.wasm_reader.specs.declared.error.ErrorKind.TheVariants as kinds
 use Rattle.wasm_ref_types.specs.declared.value.ValType.TheVariants as values
 use Rattle.walrus_forms.specs.declared.value.ValType.TheVariants.{I32, I64}
 use Rattle.walrus_forms.specs.Kinds.{function_kind, struct_kind}
-use Rattle.wasm_immediates.specs.declared.block_type.BlockType.TheVariants as blocks
-use Rattle.wasm_immediates.specs.Items.{Functions, Tags, DataSegments, Locals, Labels, Names, S32, Block}
+use Rattle.wasm_operators.specs.declared.block_type.BlockType.TheVariants as blocks
+use Rattle.wasm_operators.specs.Items.{Functions, Tags, DataSegments, Locals, Labels, Names, S32, Block}
 use Rattle.wasm_formats.specs.declared.fault.Space.TheVariants as spaces
 use Rattle.wasm_formats.specs.declared.fault.Limited.TheVariants as limits
 use Rattle.wasm_formats.specs.Stops.{Trouble, Read, Index, TypeForm, Nesting, Position, Operator, Limit, Stop, stop}

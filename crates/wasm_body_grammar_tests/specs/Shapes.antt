@@ -6,9 +6,9 @@ use Rattle.wasm_ref_types.specs.declared.heap.HeapType.TheVariants.{Abstract, Co
 use Rattle.wasm_ref_types.specs.declared.index.UnpackedIndex.TheVariants.{Module}
 use Rattle.wasm_ref_types.specs.declared.value.ValType.TheVariants as values
 use Rattle.wasm_ref_types.specs.ReadTypes.{shared_types}
-use Rattle.wasm_immediates.specs.declared.block_type.BlockType.TheVariants as blocks
-use Rattle.wasm_immediates.specs.declared.clause.Clause.TheVariants as handlers
-use Rattle.wasm_immediates.specs.Items.{Types, Functions, Tables, Memories, Tags, Globals, ElementSegments, DataSegments, Locals, Labels, Names, Number, S32, S64, Bits, Byte, Bytes, Heap, Block, Access, ManyLabels, ManyValues, ManyClauses}
+use Rattle.wasm_operators.specs.declared.block_type.BlockType.TheVariants as blocks
+use Rattle.wasm_operators.specs.declared.clause.Clause.TheVariants as handlers
+use Rattle.wasm_operators.specs.Items.{Types, Functions, Tables, Memories, Tags, Globals, ElementSegments, DataSegments, Locals, Labels, Names, Number, S32, S64, Bits, Byte, Bytes, Heap, Block, Access, ManyLabels, ManyValues, ManyClauses}
 use Rattle.wasm_operators.specs.Operators.{Seen}
 use Rattle.wasm_formats.specs.declared.fault.Space.TheVariants as spaces
 use Rattle.wasm_formats.specs.declared.fault.Form.TheVariants as unsupported

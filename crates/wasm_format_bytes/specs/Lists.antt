@@ -8,9 +8,9 @@ use Rattle.wasm_formats.specs.Lists.{SpellsEntries, vec, listed}
 use Rattle.wasm_formats.specs.Files.{entries, ended_by}
 use Rattle.wasm_formats.specs.Led.{led}
 use Rattle.wasm_formats.specs.Until.{until, SpellsUntil}
-use Rattle.wasm_operator_bytes.specs.Bytes.{unsigned_bytes}
-use Rattle.wasm_operator_bytes.specs.Numbers.{shorter}
-use Rattle.wasm_operator_bytes.specs.Vecs.{parts_small, parts_short}
+use Rattle.wasm_operators.specs.Bytes.{unsigned_bytes}
+use Rattle.wasm_operators.specs.Numbers.{shorter}
+use Rattle.wasm_operators.specs.Vecs.{parts_small, parts_short}
 use Rattle.wasm_format_bytes.specs.Writers.{Writer, WholeWriter, u32_writer, same_length}
 
 -- ---- entries, each at the state that those before it left

@@ -10,10 +10,10 @@ use Rattle.wasm_formats.specs.Bytes.{byte, literal, never, either, either_type}
 use Rattle.wasm_formats.specs.Joined.{checked, only, after, pair_checked, built}
 use Rattle.wasm_formats.specs.Parts.{nothing, seen, inner_checked}
 use Rattle.wasm_formats.specs.Wholes.{u32}
-use Rattle.wasm_operator_bytes.specs.Bytes.{unsigned_bytes}
-use Rattle.wasm_operator_bytes.specs.Laws.{WritesShortest}
-use Rattle.wasm_operator_bytes.specs.Numbers.{u32_short}
-use Rattle.wasm_operator_bytes.specs.Vecs.{parts_small, parts_short}
+use Rattle.wasm_operators.specs.Bytes.{unsigned_bytes}
+use Rattle.wasm_operators.specs.Laws.{WritesShortest}
+use Rattle.wasm_operators.specs.Numbers.{u32_short}
+use Rattle.wasm_operators.specs.Vecs.{parts_small, parts_short}
 
 pub record Writer {A : Type 0} (f : Format A) : Type 1 where
   -- within the limits of the format

@@ -7,12 +7,12 @@ use Rattle.walrus_forms.specs.declared.value.ValType.{ValType}
 use Rattle.walrus_forms.specs.declared.value.ValType.TheVariants.{I32, I64}
 use Rattle.walrus_forms.specs.declared.value.HeapType.{HeapType}
 use Rattle.walrus_forms.specs.Values.{heap_name}
-use Rattle.wasm_operators.specs.wasm_immediates.Items as immediates
-use Rattle.wasm_operators.specs.wasm_immediates.Items.{Item, Names, Heap}
-use Rattle.wasm_operators.specs.wasm_immediates.Readings.{items_at}
-use Rattle.wasm_operators.specs.wasm_immediates.Spellings.{SpellsForms}
-use Rattle.wasm_operators.specs.wasm_immediates.Taken.{forms_taken}
-use Rattle.wasm_operators.specs.wasm_immediates.Finals.{items_final}
+use Rattle.wasm_operators.specs.Items as immediates
+use Rattle.wasm_operators.specs.Items.{Item, Names, Heap}
+use Rattle.wasm_operators.specs.Readings.{items_at}
+use Rattle.wasm_operators.specs.ItemSpellings.{SpellsForms}
+use Rattle.wasm_operators.specs.ItemsTaken.{forms_taken}
+use Rattle.wasm_operators.specs.ItemFinals.{items_final}
 use Rattle.wasm_operators.specs.declared.entry.Kind.{Kind}
 use Rattle.wasm_operators.specs.declared.op_code.OpCode.{OpCode}
 use Rattle.wasm_operators.specs.Kinds.{forms}

@@ -10,9 +10,9 @@ use Rattle.wasm_formats.specs.Stops.{Limit}
 use Rattle.wasm_formats.specs.Formats.{Small}
 use Rattle.wasm_formats.specs.Bytes.{either_type}
 use Rattle.wasm_formats.specs.Lists.{SpellsEntries, EntryRules}
-use Rattle.wasm_operator_bytes.specs.Bytes.{operator_bytes}
-use Rattle.wasm_operator_bytes.specs.Operators.{operator_short}
-use Rattle.wasm_operator_bytes.specs.Vecs.{parts_small, parts_short}
+use Rattle.wasm_operators.specs.Bytes.{operator_bytes}
+use Rattle.wasm_operators.specs.Written.{operator_short}
+use Rattle.wasm_operators.specs.Vecs.{parts_small, parts_short}
 use Rattle.wasm_format_bytes.specs.Writers.{Writer, HasSpelling, u32_writer, checked_writer, after_writer}
 use Rattle.wasm_format_bytes.specs.Lists.{vec_writer}
 use Rattle.wasm_grammar.specs.Modules.{Placed}

@@ -6,8 +6,8 @@ use Rattle.std.proofs.lemmas.Bool.{cases_lt, lt-ltb, le-ltb}
 use Rattle.std.proofs.lemmas.List.{append_assoc, length-append}
 use Rattle.wasm_reader.specs.Shortest.{shortest_unsigned}
 use Rattle.walrus_forms.specs.declared.value.ValType.{ValType}
-use Rattle.wasm_operator_bytes.specs.Bytes.{unsigned_bytes, value_bytes}
-use Rattle.wasm_operator_bytes.specs.Numbers.{shorter}
+use Rattle.wasm_operators.specs.Bytes.{unsigned_bytes, value_bytes}
+use Rattle.wasm_operators.specs.Numbers.{shorter}
 use Rattle.wasm_format_bytes.specs.Lists.{entries_bytes}
 use Rattle.wasm_grammar.specs.TypeWords.{value_from}
 use Rattle.wasm_body_grammar.specs.Rules.{Around}

@@ -10,8 +10,8 @@ use Rattle.wasm_formats.specs.declared.fault.Limited.TheVariants as limits
 use Rattle.wasm_formats.specs.Stops.{Trouble, Limit}
 use Rattle.wasm_formats.specs.Formats.{Small}
 use Rattle.wasm_formats.specs.Lists.{SpellsEntries, EntryRules}
-use Rattle.wasm_operator_bytes.specs.Bytes.{operator_bytes}
-use Rattle.wasm_operator_bytes.specs.Vecs.{parts_small, parts_short}
+use Rattle.wasm_operators.specs.Bytes.{operator_bytes}
+use Rattle.wasm_operators.specs.Vecs.{parts_small, parts_short}
 use Rattle.wasm_format_bytes.specs.Lists.{EntriesFit}
 use Rattle.wasm_grammar.specs.Modules.{Placed, Body}
 use Rattle.wasm_grammar.specs.Values.{must, value_type}

@@ -15,11 +15,11 @@ use Rattle.wasm_reader.specs.declared.error.ErrorKind.TheVariants as kinds
 use Rattle.walrus_forms.specs.Values.{heap_name, value_name}
 use Rattle.wasm_formats.specs.Stops.{Read, Unsupported}
 use Rattle.wasm_formats.specs.Parts.{optional, some_once}
-use Rattle.wasm_operator_bytes.specs.Bytes.{unsigned_bytes, reference_bytes, value_bytes}
-use Rattle.wasm_operator_bytes.specs.Laws.{WritesShortest}
-use Rattle.wasm_operator_bytes.specs.Numbers.{u32_short, u64_short}
-use Rattle.wasm_operator_bytes.specs.Types.{value_short}
-use Rattle.wasm_operator_bytes.specs.Vecs.{parts_small, parts_short}
+use Rattle.wasm_operators.specs.Bytes.{unsigned_bytes, reference_bytes, value_bytes}
+use Rattle.wasm_operators.specs.Laws.{WritesShortest}
+use Rattle.wasm_operators.specs.Numbers.{u32_short, u64_short}
+use Rattle.wasm_operators.specs.Types.{value_short}
+use Rattle.wasm_operators.specs.Vecs.{parts_small, parts_short}
 use Rattle.wasm_format_bytes.specs.Writers.{Writer, leaf_writer, u32_writer, byte_writer, nothing_writer, checked_writer, after_writer, built_writer, seen_writer, either_writer}
 use Rattle.wasm_grammar.specs.TypeWords.{value_of, value_from, value_told, value_once, ref_of, ref_from, ref_told, ref_once}
 use Rattle.wasm_grammar.specs.Values.{must, u64, name, byte_below, value_type, ref_type, named_below, size, has_maximum, is_wide, limits}

@@ -6,9 +6,9 @@ use Rattle.wasm_ref_types.specs.declared.heap.HeapType.{HeapType as WrittenHeap}
 use Rattle.wasm_ref_types.specs.declared.heap.HeapType.TheVariants.{Abstract as WAbstract, Concrete as WConcrete, Exact as WExact}
 use Rattle.wasm_ref_types.specs.declared.value.ValType.{ValType as WrittenValue}
 use Rattle.wasm_ref_types.specs.declared.value.ValType.TheVariants.{Ref as WRef}
-use Rattle.wasm_immediates.specs.declared.block_type.BlockType.{BlockType}
-use Rattle.wasm_immediates.specs.declared.block_type.BlockType.TheVariants as blocks
-use Rattle.wasm_immediates.specs.Items.{Item, Heap, Block, ManyValues}
+use Rattle.wasm_operators.specs.declared.block_type.BlockType.{BlockType}
+use Rattle.wasm_operators.specs.declared.block_type.BlockType.TheVariants as blocks
+use Rattle.wasm_operators.specs.Items.{Item, Heap, Block, ManyValues}
 use Rattle.wasm_operators.specs.Operators.{Seen}
 use Rattle.walrus_forms.specs.declared.value.HeapType.{HeapType}
 use Rattle.walrus_forms.specs.declared.value.HeapType.TheVariants.{Abstract, Concrete, Exact}

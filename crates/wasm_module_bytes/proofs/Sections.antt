@@ -8,8 +8,8 @@ use Rattle.wasm_formats.specs.declared.fault.Limited.TheVariants as limits
 use Rattle.wasm_formats.specs.Stops.{SectionOrder, Limit}
 use Rattle.wasm_formats.specs.Lists.{SpellsEntries, EntryRules}
 use Rattle.wasm_formats.specs.Wholes.{whole}
-use Rattle.wasm_operator_bytes.specs.Bytes.{unsigned_bytes}
-use Rattle.wasm_operator_bytes.specs.Numbers.{shorter}
+use Rattle.wasm_operators.specs.Bytes.{unsigned_bytes}
+use Rattle.wasm_operators.specs.Numbers.{shorter}
 use Rattle.wasm_grammar.specs.States.{Chunk, State}
 use Rattle.wasm_grammar.specs.Values.{must}
 use Rattle.wasm_sections.specs.TypeSection.{GroupEntry, group, add_group}

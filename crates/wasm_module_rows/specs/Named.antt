@@ -1,7 +1,7 @@
 -- Files with sections `name`: which modules they are, and which names are kept of them.
 use Rattle.std.specs.Prelude.{ℕ, ◌≡◌, List, [], ◌∷◌, ◌++◌, map, Option, Some, None}
 use Rattle.walrus_forms.specs.declared.value.ValType.TheVariants.{I32}
-use Rattle.wasm_immediates.specs.Items.{Locals, Names}
+use Rattle.wasm_operators.specs.Items.{Locals, Names}
 use Rattle.wasm_formats.specs.declared.fault.Space.TheVariants as spaces
 use Rattle.wasm_grammar.specs.Modules.{Body, Module}
 use Rattle.wasm_name_payloads.specs.Names.{Bearer, TheModule, ALocal, Given, given, item_in, section_name, names_of, name_of}

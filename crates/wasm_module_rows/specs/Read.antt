@@ -15,8 +15,8 @@ use Rattle.walrus_forms.specs.Values.{nullable}
 use Rattle.walrus_forms.specs.Forms.{StructForm}
 use Rattle.walrus_forms.specs.Kinds.{Kind, declared_kind, function_kind, array_kind}
 use Rattle.walrus_forms.specs.Records.{TypeGroup}
-use Rattle.wasm_immediates.specs.declared.block_type.BlockType.TheVariants as blocks
-use Rattle.wasm_immediates.specs.Items.{Item, Functions, Tags, Globals, DataSegments, Locals, Names, S32, S64, Heap, Block}
+use Rattle.wasm_operators.specs.declared.block_type.BlockType.TheVariants as blocks
+use Rattle.wasm_operators.specs.Items.{Item, Functions, Tags, Globals, DataSegments, Locals, Names, S32, S64, Heap, Block}
 use Rattle.wasm_operators.specs.Operators.{Seen}
 use Rattle.wasm_formats.specs.declared.fault.Space.{Space}
 use Rattle.wasm_formats.specs.declared.fault.Space.TheVariants as spaces

@@ -1,10 +1,10 @@
 -- Trees and their operators; normal forms again.
 use Rattle.std.proofs.Common.{ℕ, ◌≡◌, Bool, true, false, if◌then◌else◌, List, [], ◌∷◌, ◌++◌, map, Option, None, refl, sym, ap, ◌∙◌, append-nil}
 use Rattle.std.proofs.lemmas.List.{append_assoc}
-use Rattle.wasm_operator_bytes.specs.wasm_immediates.declared.block_type.BlockType.{BlockType}
-use Rattle.wasm_operator_bytes.specs.wasm_immediates.Items.{Item, Names, Number, S32, S64, Bits, Byte, Bytes, Heap, Block, Access, ManyLabels, ManyValues, ManyClauses}
-use Rattle.wasm_operator_bytes.specs.wasm_operators.Operators.{Seen}
-use Rattle.wasm_operator_bytes.specs.wasm_operators.Table.{structure_rows}
+use Rattle.wasm_operators.specs.declared.block_type.BlockType.{BlockType}
+use Rattle.wasm_operators.specs.Items.{Item, Names, Number, S32, S64, Bits, Byte, Bytes, Heap, Block, Access, ManyLabels, ManyValues, ManyClauses}
+use Rattle.wasm_operators.specs.Operators.{Seen}
+use Rattle.wasm_operators.specs.Table.{structure_rows}
 use Rattle.wasm_normal_form.specs.Roles.{Placed, Role, Passes, Runs, Opens, Turns, Ends, role, cuts, is_if, is_delegate, else_op, end_op}
 use Rattle.wasm_normal_form.specs.Trees.{Tree, Close, Arm, Skip, Run, Nest, flat, IsShaped, NestAs, prepend, open_in, innermost, tree_of}
 use Rattle.wasm_normal_form.specs.Normal.{with_pick, picked, closed, normal_from, normal, normal_ops}

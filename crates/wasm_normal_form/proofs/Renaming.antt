@@ -1,8 +1,8 @@
 -- The normal form of operators whose locals are renamed.
 use Rattle.std.proofs.Common.{ℕ, ◌≡◌, Bool, true, false, List, [], ◌∷◌, ◌++◌, map, Option, refl, sym, ap, ◌∙◌}
-use Rattle.wasm_operator_bytes.specs.wasm_immediates.declared.block_type.BlockType.{BlockType}
-use Rattle.wasm_operator_bytes.specs.wasm_immediates.Items.{Locals, Types, Functions, Tables, Memories, Tags, Globals, ElementSegments, DataSegments, Labels, Item, Names, Number, S32, S64, Bits, Byte, Bytes, Heap, Block, Access, ManyLabels, ManyValues, ManyClauses}
-use Rattle.wasm_operator_bytes.specs.wasm_operators.Operators.{Seen}
+use Rattle.wasm_operators.specs.declared.block_type.BlockType.{BlockType}
+use Rattle.wasm_operators.specs.Items.{Locals, Types, Functions, Tables, Memories, Tags, Globals, ElementSegments, DataSegments, Labels, Item, Names, Number, S32, S64, Bits, Byte, Bytes, Heap, Block, Access, ManyLabels, ManyValues, ManyClauses}
+use Rattle.wasm_operators.specs.Operators.{Seen}
 use Rattle.wasm_normal_form.specs.Roles.{Placed, placed, cuts, is_if}
 use Rattle.wasm_normal_form.specs.Trees.{Tree, Close, Arm, Skip, Run, Nest, flat, IsShaped, NestAs}
 use Rattle.wasm_normal_form.specs.Normal.{with_pick, picked, closed, normal_from, normal, normal_ops}

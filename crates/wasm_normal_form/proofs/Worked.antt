@@ -1,7 +1,7 @@
 -- The worked bodies, computed.
 use Rattle.std.proofs.Common.{refl}
-use Rattle.wasm_operator_bytes.specs.wasm_operators.Table.{structure_rows, call_rows, plain_rows, fc_rows}
-use Rattle.wasm_operator_bytes.specs.wasm_reader.Shortest.{shortest_unsigned, shortest_signed}
+use Rattle.wasm_operators.specs.Table.{structure_rows, call_rows, plain_rows, fc_rows}
+use Rattle.wasm_operators.specs.wasm_reader.Shortest.{shortest_unsigned, shortest_signed}
 use Rattle.wasm_normal_form.specs.Rows.{Nops, Added, Unused, Cut, Kept, Segments, Handled, Inner, Handed}
 
 pub nops : Nops

@@ -2,8 +2,8 @@
 use Rattle.std.specs.Prelude.{ℕ, ◌+◌, ◌==◌, Bool, List, [], ◌∷◌, map, nat_lt, if◌then◌else◌}
 use Rattle.std.specs.List.{flat_map, filter, list_any}
 use Rattle.walrus_forms.specs.declared.value.ValType.{ValType}
-use Rattle.wasm_operator_bytes.specs.wasm_immediates.declared.block_type.BlockType.{BlockType}
-use Rattle.wasm_operator_bytes.specs.wasm_immediates.Items.{Locals, Item, Names}
+use Rattle.wasm_operators.specs.declared.block_type.BlockType.{BlockType}
+use Rattle.wasm_operators.specs.Items.{Locals, Item, Names}
 use Rattle.wasm_normal_form.specs.Roles.{Placed, placed}
 use Rattle.wasm_normal_form.specs.Normal.{normal_ops}
 use Rattle.wasm_normal_form.specs.Locals.{Key, in_order, position, numbered}

@@ -1,6 +1,6 @@
 -- What holds of trees and of normal forms.
 use Rattle.std.specs.Prelude.{◌≡◌, ℕ, List, map}
-use Rattle.wasm_operator_bytes.specs.wasm_immediates.declared.block_type.BlockType.{BlockType}
+use Rattle.wasm_operators.specs.declared.block_type.BlockType.{BlockType}
 use Rattle.wasm_normal_form.specs.Roles.{Placed}
 use Rattle.wasm_normal_form.specs.Trees.{Tree, NestAs, tree_of}
 use Rattle.wasm_normal_form.specs.Normal.{normal, normal_ops}

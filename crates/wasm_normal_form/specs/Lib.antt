@@ -7,4 +7,4 @@ pub mod Places
 pub mod Laws
 pub mod Rows
 -- Passed on to crates above, which then list this one alone.
-pub use Rattle.wasm_operator_bytes.specs.wasm_immediates as wasm_immediates
+pub use Rattle.wasm_operators.specs as wasm_operators

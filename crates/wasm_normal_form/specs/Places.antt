@@ -1,7 +1,7 @@
 -- The bytes of a body, and which of its operators stand for which.
 use Rattle.std.specs.Prelude.{ℕ, ◌+◌, List, [], ◌∷◌, ◌++◌, length, Option, Some, None}
 use Rattle.std.specs.List.{flat_map}
-use Rattle.wasm_operator_bytes.specs.Bytes.{operator_bytes}
+use Rattle.wasm_operators.specs.Bytes.{operator_bytes}
 use Rattle.wasm_normal_form.specs.Roles.{Placed}
 
 -- the operators in their shortest spelling, one after another

@@ -1,8 +1,8 @@
 -- What operators are to the nesting of a body, by what the table says of them (Core Specification, control instructions).
 use Rattle.std.specs.Prelude.{ℕ, Bool, true, false, [], Option, Some}
-use Rattle.wasm_operator_bytes.specs.wasm_operators.declared.entry.Flow.{Flow}
-use Rattle.wasm_operator_bytes.specs.wasm_operators.declared.entry.Flow.TheVariants as flows
-use Rattle.wasm_operator_bytes.specs.wasm_operators.Operators.{Seen, op_code, flow_of}
+use Rattle.wasm_operators.specs.declared.entry.Flow.{Flow}
+use Rattle.wasm_operators.specs.declared.entry.Flow.TheVariants as flows
+use Rattle.wasm_operators.specs.Operators.{Seen, op_code, flow_of}
 
 -- an operator, and the place that it carries, if it carries one
 pub record Placed : Type 0 where

@@ -2,12 +2,12 @@
 use Rattle.std.specs.Prelude.{◌≡◌, ℕ, ◌+◌, pos, List, [], ◌∷◌, length, Some}
 use Rattle.walrus_forms.specs.declared.value.ValType.{ValType}
 use Rattle.walrus_forms.specs.declared.value.ValType.TheVariants as values
-use Rattle.wasm_operator_bytes.specs.wasm_ref_types.declared.value.ValType.TheVariants.{I32}
-use Rattle.wasm_operator_bytes.specs.wasm_immediates.declared.block_type.BlockType.{BlockType}
-use Rattle.wasm_operator_bytes.specs.wasm_immediates.declared.block_type.BlockType.TheVariants as blocks
-use Rattle.wasm_operator_bytes.specs.wasm_immediates.Items.{Functions, DataSegments, Tags, Labels, Locals, Item, Names, S32, Block}
-use Rattle.wasm_operator_bytes.specs.wasm_operators.Operators.{Seen, op_code}
-use Rattle.wasm_operator_bytes.specs.Bytes.{operator_bytes}
+use Rattle.wasm_operators.specs.wasm_ref_types.declared.value.ValType.TheVariants.{I32}
+use Rattle.wasm_operators.specs.declared.block_type.BlockType.{BlockType}
+use Rattle.wasm_operators.specs.declared.block_type.BlockType.TheVariants as blocks
+use Rattle.wasm_operators.specs.Items.{Functions, DataSegments, Tags, Labels, Locals, Item, Names, S32, Block}
+use Rattle.wasm_operators.specs.Operators.{Seen, op_code}
+use Rattle.wasm_operators.specs.Bytes.{operator_bytes}
 use Rattle.wasm_normal_form.specs.Roles.{Placed, placed, bare, end_op}
 use Rattle.wasm_normal_form.specs.Bodies.{Body, normal_body}
 use Rattle.wasm_normal_form.specs.Places.{code_bytes, pairs_from}

@@ -1,7 +1,7 @@
 -- The operators of a body as a tree of the sequences that they nest in (Core Specification, binary format: instructions,
 -- expressions).
 use Rattle.std.specs.Prelude.{◌≡◌, ℕ, List, [], ◌∷◌, ◌++◌, Option, None}
-use Rattle.wasm_operator_bytes.specs.wasm_operators.Operators.{Seen}
+use Rattle.wasm_operators.specs.Operators.{Seen}
 use Rattle.wasm_normal_form.specs.Roles.{Placed, placed, Role, Passes, Runs, Opens, Turns, Ends, role, end_op}
 
 -- a sequence from here on; its last leaf is the operator that ends it, or that begins the next sequence of its block

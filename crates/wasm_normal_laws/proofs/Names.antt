@@ -4,7 +4,7 @@ use Rattle.std.specs.Prelude.{◌==◌, ◌||◌}
 use Rattle.std.specs.List.{flat_map, list_any}
 use Rattle.std.proofs.lemmas.Bool.{eqb-true, eq-eqb}
 use Rattle.std.proofs.lemmas.List.{map-append}
-use Rattle.wasm_normal_form.specs.wasm_immediates.Items.{Locals, Types, Functions, Tables, Memories, Tags, Globals, ElementSegments, DataSegments, Labels, Item, Names, Number, S32, S64, Bits, Byte, Bytes, Heap, Block, Access, ManyLabels, ManyValues, ManyClauses}
+use Rattle.wasm_normal_form.specs.wasm_operators.Items.{Locals, Types, Functions, Tables, Memories, Tags, Globals, ElementSegments, DataSegments, Labels, Item, Names, Number, S32, S64, Bits, Byte, Bytes, Heap, Block, Access, ManyLabels, ManyValues, ManyClauses}
 use Rattle.wasm_normal_form.specs.Roles.{Placed, placed}
 use Rattle.wasm_normal_form.specs.Bodies.{is_used, local_in, locals_named, renamed_local, with_locals}
 

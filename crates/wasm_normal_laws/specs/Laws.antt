@@ -1,6 +1,6 @@
 -- What holds of whole bodies in normal form.
 use Rattle.std.specs.Prelude.{ℕ, ◌≡◌}
-use Rattle.wasm_normal_form.specs.wasm_immediates.declared.block_type.BlockType.{BlockType}
+use Rattle.wasm_normal_form.specs.wasm_operators.declared.block_type.BlockType.{BlockType}
 use Rattle.wasm_normal_form.specs.Trees.{Tree, NestAs}
 use Rattle.wasm_normal_form.specs.Bodies.{Body, normal_body}
 use Rattle.wasm_normal_form.specs.Laws.{IsPick}

@@ -1,13 +1,13 @@
 -- Lemmas: the readings of codes and of operators are final.
 use Rattle.std.specs.Prelude.{ℕ, Bool, true, false, List, Option, Some, None, Ok, if◌then◌else◌}
-use Rattle.wasm_immediates.specs.wasm_features.declared.WasmFeatures.{WasmFeatures}
-use Rattle.wasm_immediates.specs.wasm_reader.Reading.{Reading, byte_at}
-use Rattle.wasm_immediates.specs.wasm_reader.Numbers.{unsigned_at}
-use Rattle.wasm_immediates.specs.wasm_reader.Laws.{IsFinal}
-use Rattle.wasm_immediates.specs.wasm_reader.Final.{then_final, map_final, done_final}
-use Rattle.wasm_immediates.specs.wasm_reader.Finals.{byte_final, unsigned_final}
-use Rattle.wasm_immediates.specs.Readings.{mapped, items_at}
-use Rattle.wasm_immediates.specs.Finals.{items_final}
+use Rattle.wasm_composite_types.specs.wasm_features.declared.WasmFeatures.{WasmFeatures}
+use Rattle.wasm_composite_types.specs.wasm_reader.Reading.{Reading, byte_at}
+use Rattle.wasm_composite_types.specs.wasm_reader.Numbers.{unsigned_at}
+use Rattle.wasm_composite_types.specs.wasm_reader.Laws.{IsFinal}
+use Rattle.wasm_composite_types.specs.wasm_reader.Final.{then_final, map_final, done_final}
+use Rattle.wasm_composite_types.specs.wasm_reader.Finals.{byte_final, unsigned_final}
+use Rattle.wasm_operators.specs.Readings.{mapped, items_at}
+use Rattle.wasm_operators.specs.ItemFinals.{items_final}
 use Rattle.wasm_operators.specs.declared.entry.Kind.{Kind}
 use Rattle.wasm_operators.specs.declared.op_code.OpCode.{OpCode}
 use Rattle.wasm_operators.specs.Kinds.{forms}

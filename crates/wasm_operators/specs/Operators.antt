@@ -1,12 +1,12 @@
 -- Operators, and how they are read (Core Specification, binary format: instructions).
 use Rattle.std.specs.Prelude.{ℕ, ◌+◌, ◌&&◌, ◌≡◌, nat_le, Bool, true, List, Option, Some, None, Result, Ok, Err, if◌then◌else◌}
-use Rattle.wasm_immediates.specs.wasm_features.declared.WasmFeatures.{WasmFeatures}
-use Rattle.wasm_immediates.specs.wasm_features.Features.{has, LegacyExceptions, WideArithmetic}
-use Rattle.wasm_immediates.specs.wasm_reader.Cursor.{Cursor}
-use Rattle.wasm_immediates.specs.wasm_reader.Reading.{Reading, ◌>>=◌, byte_at}
-use Rattle.wasm_immediates.specs.wasm_reader.Numbers.{unsigned_at}
-use Rattle.wasm_immediates.specs.Items.{Item}
-use Rattle.wasm_immediates.specs.Readings.{mapped, items_at}
+use Rattle.wasm_composite_types.specs.wasm_features.declared.WasmFeatures.{WasmFeatures}
+use Rattle.wasm_composite_types.specs.wasm_features.Features.{has, LegacyExceptions, WideArithmetic}
+use Rattle.wasm_composite_types.specs.wasm_reader.Cursor.{Cursor}
+use Rattle.wasm_composite_types.specs.wasm_reader.Reading.{Reading, ◌>>=◌, byte_at}
+use Rattle.wasm_composite_types.specs.wasm_reader.Numbers.{unsigned_at}
+use Rattle.wasm_operators.specs.Items.{Item}
+use Rattle.wasm_operators.specs.Readings.{mapped, items_at}
 use Rattle.wasm_operators.specs.declared.entry.Gate.{Gate}
 use Rattle.wasm_operators.specs.declared.entry.Gate.TheVariants as gates
 use Rattle.wasm_operators.specs.declared.entry.Kind.{Kind}

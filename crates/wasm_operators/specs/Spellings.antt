@@ -1,7 +1,7 @@
 -- Which bytes spell an operator (Core Specification, binary format: instructions), under which features.
 use Rattle.std.specs.Prelude.{ℕ, ◌≡◌, ◌⊎◌, true, false, List, [], ◌∷◌, ◌++◌, Option, Some, None}
-use Rattle.wasm_immediates.specs.wasm_features.declared.WasmFeatures.{WasmFeatures}
-use Rattle.wasm_immediates.specs.Spellings.{SpellsU32, SpellsForms}
+use Rattle.wasm_composite_types.specs.wasm_features.declared.WasmFeatures.{WasmFeatures}
+use Rattle.wasm_operators.specs.ItemSpellings.{SpellsU32, SpellsForms}
 use Rattle.wasm_operators.specs.declared.entry.Kind.{Kind}
 use Rattle.wasm_operators.specs.declared.op_code.OpCode.{OpCode}
 use Rattle.wasm_operators.specs.Kinds.{forms}

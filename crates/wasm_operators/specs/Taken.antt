@@ -4,17 +4,17 @@ use Rattle.std.proofs.Common.{ap, sym, ◌∙◌, subst, inl, inr}
 use Rattle.std.proofs.lemmas.Bool.{cases_Bool}
 use Rattle.std.proofs.lemmas.List.{append_assoc}
 use Rattle.std.proofs.lemmas.List.Elements.{All-tail}
-use Rattle.wasm_immediates.specs.wasm_features.declared.WasmFeatures.{WasmFeatures}
-use Rattle.wasm_immediates.specs.wasm_reader.declared.error.ErrorKind.TheVariants as faults
-use Rattle.wasm_immediates.specs.wasm_reader.Reading.{Reading, ◌>>=◌}
-use Rattle.wasm_immediates.specs.wasm_reader.Numbers.{unsigned_at}
-use Rattle.wasm_immediates.specs.wasm_reader.Laws.{TakesSpelled}
-use Rattle.wasm_immediates.specs.wasm_reader.Spellings.{ok_is, then_was}
-use Rattle.wasm_immediates.specs.wasm_reader.Vecs.{later_bytes}
-use Rattle.wasm_immediates.specs.wasm_composite_types.Taken.{Small, Fronts}
-use Rattle.wasm_immediates.specs.Readings.{items_at}
-use Rattle.wasm_immediates.specs.LeavesTaken.{u32_taken}
-use Rattle.wasm_immediates.specs.Taken.{forms_taken}
+use Rattle.wasm_composite_types.specs.wasm_features.declared.WasmFeatures.{WasmFeatures}
+use Rattle.wasm_composite_types.specs.wasm_reader.declared.error.ErrorKind.TheVariants as faults
+use Rattle.wasm_composite_types.specs.wasm_reader.Reading.{Reading, ◌>>=◌}
+use Rattle.wasm_composite_types.specs.wasm_reader.Numbers.{unsigned_at}
+use Rattle.wasm_composite_types.specs.wasm_reader.Laws.{TakesSpelled}
+use Rattle.wasm_composite_types.specs.wasm_reader.Spellings.{ok_is, then_was}
+use Rattle.wasm_composite_types.specs.wasm_reader.Vecs.{later_bytes}
+use Rattle.wasm_composite_types.specs.Taken.{Small, Fronts}
+use Rattle.wasm_operators.specs.Readings.{items_at}
+use Rattle.wasm_operators.specs.LeavesTaken.{u32_taken}
+use Rattle.wasm_operators.specs.ItemsTaken.{forms_taken}
 use Rattle.wasm_operators.specs.declared.entry.Kind.{Kind}
 use Rattle.wasm_operators.specs.declared.op_code.OpCode.{OpCode}
 use Rattle.wasm_operators.specs.Kinds.{forms}

@@ -1,11 +1,11 @@
 //! Accesses to memory are read (Core Specification, binary format: memory instructions).
 
 ghost use Rattle.std.specs.Prelude.{◌≡◌};
-ghost use Rattle.wasm_immediates.specs.wasm_reader.Reading.{Reads, plain};
-ghost use Rattle.wasm_immediates.specs.Readings.{access_at, memory_at, has_memory};
+ghost use Rattle.wasm_composite_types.specs.wasm_reader.Reading.{Reads, plain};
+ghost use Rattle.wasm_operators.specs.Readings.{access_at, memory_at, has_memory};
 
-use wasm_immediates::MemoryAccess;
-use wasm_immediates::reader::{BinaryReader, Result};
+use crate::memory_access::MemoryAccess;
+use wasm_composite_types::reader::{BinaryReader, Result};
 
 // Whether the flags of an access say that the index of a memory follows. (A function of its own, so that its wrong body breaks one goal.)
 #[inline]
@@ -18,7 +18,7 @@ fn has_memory_index(flags: u32) -> bool
 /// Where an operator accesses memory: nothing is tested of it. (It stands here, and not beside the struct, so that its wrong body is tried
 /// over one proof with those of the table.)
 #[inline(always)]
-#[tactic(auto, unfolding(wasm_immediates::specs::Readings::access_at, wasm_immediates::specs::Readings::memory_at))]
+#[tactic(auto, unfolding(crate::specs::Readings::access_at, crate::specs::Readings::memory_at))]
 pub fn read_access(reader: &mut BinaryReader<'_>) -> Result<MemoryAccess>
     ensures { Reads access_at plain reader.old reader.new result }
 {

@@ -3,7 +3,7 @@
 ghost use Rattle.std.specs.Prelude.{◌≡◌};
 ghost use Rattle.wasm_operators.specs.Operators.{is_on};
 
-use wasm_immediates::reader::WasmFeatures;
+use wasm_composite_types::reader::WasmFeatures;
 
 /// What has to be on for an operator.
 #[derive(Clone, Copy, PartialEq, Eq)]

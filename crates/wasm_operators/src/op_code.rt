@@ -1,14 +1,14 @@
 //! The codes of operators (Core Specification, binary format: instructions).
 
 ghost use Rattle.std.specs.Prelude.{◌≡◌, IfOk};
-ghost use Rattle.wasm_immediates.specs.wasm_reader.Reading.{Reads};
+ghost use Rattle.wasm_composite_types.specs.wasm_reader.Reading.{Reads};
 ghost use Rattle.wasm_operators.specs.Table.{find_code};
 ghost use Rattle.wasm_operators.specs.Operators.{code_at, flow_of, kind_of, IsKindOrPlace};
 
 use crate::entry::{Entry, Flow, Kind};
 use crate::table::code_entry;
 use std::alloc::Global;
-use wasm_immediates::reader::{BinaryReader, FromReader, Result, WasmFeatures};
+use wasm_composite_types::reader::{BinaryReader, FromReader, Result, WasmFeatures};
 
 /// An operator's code: a byte, or a number behind a prefix.
 #[derive(Clone, Copy, Debug, PartialEq, Eq)]

@@ -6,5 +6,3 @@ pub use Rattle.wasm_body_grammar.specs as wasm_body_grammar
 pub use Rattle.wasm_formats.specs as wasm_formats
 pub use Rattle.wasm_grammar.specs as wasm_grammar
 pub use Rattle.wasm_grammar.specs.wasm_operators as wasm_operators
-pub use Rattle.wasm_operator_bytes.specs as wasm_operator_bytes
-pub use Rattle.wasm_operator_bytes.specs.wasm_immediates as wasm_immediates

@@ -9,10 +9,10 @@ use Rattle.wasm_grammar.specs.walrus_forms.Records.{TypeGroup}
 use Rattle.wasm_grammar.specs.walrus_forms.Values.{ref_name, value_name}
 use Rattle.wasm_formats.specs.declared.fault.Space.{Space}
 use Rattle.wasm_formats.specs.declared.fault.Space.TheVariants as spaces
-use Rattle.wasm_operator_bytes.specs.wasm_immediates.declared.block_type.BlockType.{BlockType}
-use Rattle.wasm_operator_bytes.specs.wasm_immediates.Items as immediates
+use Rattle.wasm_operators.specs.declared.block_type.BlockType.{BlockType}
+use Rattle.wasm_operators.specs.Items as immediates
 use Rattle.wasm_grammar.specs.wasm_operators.Operators.{Seen}
-use Rattle.wasm_operator_bytes.specs.Names.{Name, operator_names, block_names}
+use Rattle.wasm_operators.specs.Names.{Name, operator_names, block_names}
 use Rattle.wasm_grammar.specs.Modules.{Item, Expr, Origin, Imported, Own, Placed, Body, Function, Table, Global, Tag, Mode, Passive, Declared, Active, Elements, Functions, Expressions, Element, Segment, Module}
 use Rattle.wasm_body_grammar.specs.Rules.{space_of}
 

@@ -6,8 +6,8 @@ use Rattle.std.proofs.lemmas.Bool.{cases_lt, lt-ltb, ltb-true}
 use Rattle.std.proofs.lemmas.List.{append_assoc, append-nil, length-append, get_or_append_left}
 use Rattle.walrus_forms.specs.declared.value.HeapType.{HeapType}
 use Rattle.walrus_forms.specs.Values.{heap_name}
-use Rattle.wasm_immediates.specs.Items as immediates
-use Rattle.wasm_immediates.specs.Items.{Item, Names, Number, S32, S64, Bits, Byte, Bytes, Heap, Block, Access, ManyLabels, ManyValues, ManyClauses}
+use Rattle.wasm_operators.specs.Items as immediates
+use Rattle.wasm_operators.specs.Items.{Item, Names, Number, S32, S64, Bits, Byte, Bytes, Heap, Block, Access, ManyLabels, ManyValues, ManyClauses}
 use Rattle.wasm_formats.specs.Stops.{Trouble, OffsetType}
 use Rattle.wasm_module_rules.specs.wasm_modules.wasm_body_grammar.wasm_grammar.TypeWords.{heap_of}
 use Rattle.wasm_module_rules.specs.wasm_modules.wasm_body_grammar.wasm_grammar.Modules.{Expr, Table, Global, Mode, Passive, Declared, Active, Elements, Functions, Expressions, Element, Segment}

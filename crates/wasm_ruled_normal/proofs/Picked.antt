@@ -10,7 +10,7 @@ use Rattle.wasm_ruled_modules.specs.wasm_module_rules.wasm_modules.wasm_body_gra
 use Rattle.wasm_normal_form.specs.Normal.{closed, normal_from, with_pick}
 use Rattle.wasm_normal_form.specs.Roles.{Placed, Role, Passes, Runs, Opens, Turns, Ends, cuts, else_op, end_op, is_if, role}
 use Rattle.wasm_normal_form.specs.Trees.{Tree, Close, Arm, Skip, Run, Nest, IsShaped, flat, innermost, open_in, prepend, tree_of}
-use Rattle.wasm_normal_form.specs.wasm_immediates.Items.{Item, Names, Number, S32, S64, Bits, Byte, Bytes, Heap, Block, Access, ManyLabels, ManyValues, ManyClauses}
+use Rattle.wasm_normal_form.specs.wasm_operators.Items.{Item, Names, Number, S32, S64, Bits, Byte, Bytes, Heap, Block, Access, ManyLabels, ManyValues, ManyClauses}
 use Rattle.wasm_run_names.specs.Picks.{block_pick}
 use Rattle.wasm_ruled_normal.proofs.Picks.{picked_own}
 use Rattle.wasm_ruled_normal.proofs.Tests.{all_join}

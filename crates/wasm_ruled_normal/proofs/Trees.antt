@@ -14,12 +14,12 @@ use Rattle.wasm_ruled_modules.specs.wasm_module_rules.wasm_modules.wasm_body_gra
 use Rattle.wasm_ruled_modules.specs.wasm_module_rules.wasm_modules.wasm_body_grammar.wasm_operators.Table.{structure_rows}
 use Rattle.wasm_ruled_modules.specs.wasm_module_rules.wasm_modules.wasm_body_grammar.wasm_operators.declared.entry.Flow.{Flow}
 use Rattle.wasm_ruled_modules.specs.wasm_module_rules.wasm_modules.wasm_body_grammar.wasm_operators.declared.entry.Flow.TheVariants as flows
-use Rattle.wasm_ruled_modules.specs.wasm_module_rules.wasm_modules.wasm_body_grammar.wasm_operator_bytes.Names.{item_names, operator_names}
+use Rattle.wasm_ruled_modules.specs.wasm_module_rules.wasm_modules.wasm_body_grammar.wasm_operators.Names.{item_names, operator_names}
 use Rattle.wasm_normal_form.specs.Normal.{closed, normal_from, normal_ops, picked, with_pick}
 use Rattle.wasm_normal_form.specs.Roles.{placed, Passes as PassesOn, Runs, Opens, Turns, Ends, cuts, else_op, end_op, is_if, is_if_in, role_in}
 use Rattle.wasm_normal_form.specs.Trees.{Tree, Close, Arm, Skip, Run, Nest, flat, innermost, open_in, prepend, tree_of}
-use Rattle.wasm_normal_form.specs.wasm_immediates.Items.{Item, Names, Number, S32, S64, Bits, Byte, Bytes, Heap, Block, Access, ManyLabels, ManyValues, ManyClauses}
-use Rattle.wasm_normal_form.specs.wasm_immediates.declared.block_type.BlockType.{BlockType}
+use Rattle.wasm_normal_form.specs.wasm_operators.Items.{Item, Names, Number, S32, S64, Bits, Byte, Bytes, Heap, Block, Access, ManyLabels, ManyValues, ManyClauses}
+use Rattle.wasm_normal_form.specs.wasm_operators.declared.block_type.BlockType.{BlockType}
 use Rattle.wasm_ruled_modules.specs.Rules.{AreOperators, GroupsBelow}
 use Rattle.wasm_run_names.specs.Picks.{block_pick}
 use Rattle.wasm_ruled_normal.proofs.Picks.{block_segments, picked_fits, picked_tested, picked_words}

@@ -7,7 +7,7 @@ use Rattle.wasm_ruled_modules.specs.wasm_module_rules.wasm_modules.wasm_body_gra
 use Rattle.wasm_normal_form.specs.Laws.{IsPick}
 use Rattle.wasm_normal_form.specs.Normal.{normal_ops}
 use Rattle.wasm_normal_form.specs.Roles.{Placed, placed, Opens, role}
-use Rattle.wasm_normal_form.specs.wasm_immediates.Items.{Item, Block}
+use Rattle.wasm_normal_form.specs.wasm_operators.Items.{Item, Block}
 use Rattle.wasm_ruled_modules.specs.Rules.{AreOperators, GroupsBelow}
 use Rattle.wasm_run_names.specs.Picks.{block_pick}
 

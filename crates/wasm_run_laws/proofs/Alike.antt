@@ -4,12 +4,12 @@ use Rattle.std.proofs.Common.{ℕ, zero, suc, ◌≡◌, Bool, true, false, List
 use Rattle.std.specs.Prelude.{Option, Some, None, slice_get, if◌then◌else◌}
 use Rattle.std.specs.Option.{option_map}
 use Rattle.std.proofs.lemmas.List.{map-append}
-use Rattle.wasm_immediates.specs.declared.clause.Clause.{Clause}
-use Rattle.wasm_immediates.specs.declared.clause.Clause.TheVariants as clauses
+use Rattle.wasm_operators.specs.declared.clause.Clause.{Clause}
+use Rattle.wasm_operators.specs.declared.clause.Clause.TheVariants as clauses
 use Rattle.wasm_operators.specs.declared.entry.Flow.{Flow}
 use Rattle.wasm_operators.specs.declared.entry.Flow.TheVariants as flows
 use Rattle.wasm_operators.specs.Operators.{Seen, flow_of}
-use Rattle.wasm_operator_bytes.specs.Names.{renamed_operator}
+use Rattle.wasm_operators.specs.Names.{renamed_operator}
 use Rattle.wasm_normal_form.specs.Roles.{cuts_in, cuts, is_if_in, is_if}
 use Rattle.wasm_normal_form.specs.Trees.{Tree, Close, Arm, Skip, Run, Nest}
 use Rattle.wasm_normal_form.specs.Normal.{normal_from, picked}

@@ -1,12 +1,12 @@
 -- Runs of a body, of its normal form, and of renamed ones.
 use Rattle.std.proofs.Common.{ℕ, ◌≡◌, false, List, [], ◌∷◌, map, refl, sym, ap, subst, ◌∙◌, inr}
 use Rattle.std.specs.Prelude.{Some, None, slice_get}
-use Rattle.wasm_immediates.specs.declared.block_type.BlockType.{BlockType}
-use Rattle.wasm_immediates.specs.Items.{Space, Functions, Locals, Labels}
+use Rattle.wasm_operators.specs.declared.block_type.BlockType.{BlockType}
+use Rattle.wasm_operators.specs.Items.{Space, Functions, Locals, Labels}
 use Rattle.wasm_operators.specs.Operators.{Seen}
-use Rattle.wasm_operator_bytes.specs.Names.{Renaming, renamed_operator}
-use Rattle.wasm_operator_bytes.specs.NameLaws.{same, after}
-use Rattle.wasm_operator_bytes.specs.Renamed.{same_is_same, renames_twice}
+use Rattle.wasm_operators.specs.Names.{Renaming, renamed_operator}
+use Rattle.wasm_operators.specs.NameLaws.{same, after}
+use Rattle.wasm_operators.specs.Renamed.{same_is_same, renames_twice}
 use Rattle.wasm_normal_form.specs.Roles.{Placed}
 use Rattle.wasm_normal_form.specs.Normal.{picked, normal, normal_ops}
 use Rattle.wasm_normal_form.specs.Bodies.{Body, used_keys, new_number, normal_body}

@@ -3,14 +3,14 @@ use Rattle.std.proofs.Common.{ℕ, ◌≡◌, Bool, false, List, [], ◌∷◌, 
 use Rattle.std.specs.Prelude.{Option, Some, None}
 use Rattle.std.specs.List.{flat_map}
 use Rattle.std.proofs.lemmas.List.{map-append}
-use Rattle.wasm_immediates.specs.declared.block_type.BlockType.{BlockType}
-use Rattle.wasm_immediates.specs.declared.clause.Clause.{Clause}
-use Rattle.wasm_immediates.specs.declared.clause.Clause.TheVariants as clauses
-use Rattle.wasm_immediates.specs.Items.{Space, Functions, Labels, Item, ManyClauses}
+use Rattle.wasm_operators.specs.declared.block_type.BlockType.{BlockType}
+use Rattle.wasm_operators.specs.declared.clause.Clause.{Clause}
+use Rattle.wasm_operators.specs.declared.clause.Clause.TheVariants as clauses
+use Rattle.wasm_operators.specs.Items.{Space, Functions, Labels, Item, ManyClauses}
 use Rattle.wasm_operators.specs.Operators.{Seen, flow_of}
-use Rattle.wasm_operator_bytes.specs.Names.{Name, Renaming, operator_names, renamed_operator, renamed_item, renamed_clause}
-use Rattle.wasm_operator_bytes.specs.NameLaws.{renamed_name}
-use Rattle.wasm_operator_bytes.specs.Renamed.{names_are_renamed}
+use Rattle.wasm_operators.specs.Names.{Name, Renaming, operator_names, renamed_operator, renamed_item, renamed_clause}
+use Rattle.wasm_operators.specs.NameLaws.{renamed_name}
+use Rattle.wasm_operators.specs.Renamed.{names_are_renamed}
 use Rattle.wasm_normal_form.specs.Trees.{Tree, Close, Arm, Skip, Run, Nest}
 use Rattle.wasm_normal_form.specs.Normal.{with_pick, picked, normal_from}
 use Rattle.wasm_runs.specs.Programs.{Code, nested, label_in, labels_of, function_in, functions_of, callee_of, clauses_in, clauses_of}

@@ -3,12 +3,12 @@ use Rattle.std.proofs.Common.{ℕ, ◌≡◌, false, List, [], ◌∷◌, map, r
 use Rattle.std.specs.Prelude.{Option, Some, None, IsTrue, slice_get}
 use Rattle.std.specs.List.{AllByRecursion}
 use Rattle.std.specs.Option.{option_map}
-use Rattle.wasm_immediates.specs.declared.block_type.BlockType.{BlockType}
-use Rattle.wasm_immediates.specs.Items.{Functions}
+use Rattle.wasm_operators.specs.declared.block_type.BlockType.{BlockType}
+use Rattle.wasm_operators.specs.Items.{Functions}
 use Rattle.wasm_operators.specs.Operators.{Seen}
-use Rattle.wasm_operator_bytes.specs.Names.{renamed_operator}
-use Rattle.wasm_operator_bytes.specs.NameLaws.{same}
-use Rattle.wasm_operator_bytes.specs.Renamed.{same_is_same}
+use Rattle.wasm_operators.specs.Names.{renamed_operator}
+use Rattle.wasm_operators.specs.NameLaws.{same}
+use Rattle.wasm_operators.specs.Renamed.{same_is_same}
 use Rattle.wasm_normal_form.specs.Normal.{picked, normal}
 use Rattle.wasm_normal_form.specs.Laws.{TreeIsOne, NormalNests}
 use Rattle.wasm_runs.specs.Outcomes.{Outcome, Ending}

@@ -3,12 +3,12 @@ use Rattle.std.proofs.Common.{ℕ, ◌≡◌, Bool, true, false, List, [], ◌�
 use Rattle.std.specs.Prelude.{Option, None}
 use Rattle.std.specs.List.{AllByRecursion}
 use Rattle.std.proofs.lemmas.List.{map-append, append_assoc}
-use Rattle.wasm_immediates.specs.declared.block_type.BlockType.{BlockType}
-use Rattle.wasm_immediates.specs.Items.{Item, Block}
+use Rattle.wasm_operators.specs.declared.block_type.BlockType.{BlockType}
+use Rattle.wasm_operators.specs.Items.{Item, Block}
 use Rattle.wasm_operators.specs.declared.op_code.OpCode.{OpCode}
 use Rattle.wasm_operators.specs.Operators.{Seen, flow_of}
 use Rattle.wasm_operators.specs.Table.{structure_rows}
-use Rattle.wasm_operator_bytes.specs.Names.{Renaming, renamed_operator}
+use Rattle.wasm_operators.specs.Names.{Renaming, renamed_operator}
 use Rattle.wasm_normal_form.specs.Roles.{Placed, Role, Passes, Runs, Opens, Turns, Ends, role_in, role, cuts_in, cuts, is_if_in, is_if, else_op, end_op}
 use Rattle.wasm_normal_form.specs.Trees.{Tree, Close, Arm, Skip, Run, Nest, flat, IsShaped, prepend, open_in, innermost, tree_of}
 use Rattle.wasm_normal_form.specs.Normal.{with_pick, picked, normal_from, normal, normal_ops}

@@ -2,10 +2,10 @@
 use Rattle.std.specs.Prelude.{ℕ, ◌≡◌, List, map, Some}
 use Rattle.std.specs.List.{AllByRecursion}
 use Rattle.std.specs.Option.{option_map}
-use Rattle.wasm_immediates.specs.declared.block_type.BlockType.{BlockType}
-use Rattle.wasm_immediates.specs.Items.{Functions, Locals, Labels, Item, Block}
+use Rattle.wasm_operators.specs.declared.block_type.BlockType.{BlockType}
+use Rattle.wasm_operators.specs.Items.{Functions, Locals, Labels, Item, Block}
 use Rattle.wasm_operators.specs.Operators.{Seen}
-use Rattle.wasm_operator_bytes.specs.Names.{Renaming, renamed_block, renamed_operator}
+use Rattle.wasm_operators.specs.Names.{Renaming, renamed_block, renamed_operator}
 use Rattle.wasm_normal_form.specs.Normal.{normal_ops}
 use Rattle.wasm_runs.specs.Programs.{Signature, Program, operators, unplaced, functions_of}
 use Rattle.wasm_runs.specs.Renamed.{Maps, within, renamed_signature}

@@ -6,8 +6,8 @@ use Rattle.wasm_features.specs.declared.WasmFeatures.{WasmFeatures}
 use Rattle.wasm_ref_types.specs.declared.heap.HeapType.{HeapType}
 use Rattle.wasm_ref_types.specs.declared.heap.HeapType.TheVariants.{Abstract, Concrete, Exact}
 use Rattle.wasm_ref_types.specs.declared.index.UnpackedIndex.TheVariants.{Module, RecGroup, Id}
-use Rattle.wasm_immediates.specs.Items.{Labels, Functions, Item, Names, Byte, Heap, ManyLabels, index, below, heap, labels}
-use Rattle.wasm_immediates.specs.Spellings.{SpellsForms}
+use Rattle.wasm_operators.specs.Items.{Labels, Functions, Item, Names, Byte, Heap, ManyLabels, index, below, heap, labels}
+use Rattle.wasm_operators.specs.ItemSpellings.{SpellsForms}
 use Rattle.wasm_operators.specs.declared.entry.Entry.{Entry}
 use Rattle.wasm_operators.specs.declared.entry.Flow.{Flow}
 use Rattle.wasm_operators.specs.declared.entry.Flow.TheVariants as flows
@@ -16,7 +16,7 @@ use Rattle.wasm_operators.specs.declared.entry.Kind.TheVariants as kinds
 use Rattle.wasm_operators.specs.Kinds.{forms}
 use Rattle.wasm_operators.specs.Table.{Row, find, find_byte, find_code, structure_rows, call_rows, plain_rows, fb_rows, fc_rows, fd_rows, fe_rows}
 use Rattle.wasm_operators.specs.Operators.{Seen, is_on, kind_of, allowed, flow_in}
-use Rattle.wasm_operator_bytes.specs.Names.{Name, heap_names, item_names}
+use Rattle.wasm_operators.specs.Names.{Name, heap_names, item_names}
 use Rattle.wasm_run_laws.specs.wasm_runs.Programs.{label_in, function_in}
 use Rattle.wasm_run_names.specs.Asked.{NamesAsked, OperatorsNameWhatIsAsked}
 

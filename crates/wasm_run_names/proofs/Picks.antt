@@ -16,11 +16,11 @@ use Rattle.wasm_ref_types.specs.declared.index.UnpackedIndex.TheVariants.{Module
 use Rattle.wasm_ref_types.specs.declared.value.ValType.{ValType as ReadValue}
 use Rattle.wasm_ref_types.specs.declared.value.ValType.TheVariants as read_values
 use Rattle.wasm_ref_types.specs.Reference.{reference}
-use Rattle.wasm_immediates.specs.declared.block_type.BlockType.{BlockType}
-use Rattle.wasm_immediates.specs.declared.block_type.BlockType.TheVariants as blocks
-use Rattle.wasm_immediates.specs.Items.{Types}
-use Rattle.wasm_operator_bytes.specs.Names as names
-use Rattle.wasm_operator_bytes.specs.Names.{Renaming}
+use Rattle.wasm_operators.specs.declared.block_type.BlockType.{BlockType}
+use Rattle.wasm_operators.specs.declared.block_type.BlockType.TheVariants as blocks
+use Rattle.wasm_operators.specs.Items.{Types}
+use Rattle.wasm_operators.specs.Names as names
+use Rattle.wasm_operators.specs.Names.{Renaming}
 use Rattle.wasm_grammar.specs.States.{types_of}
 use Rattle.wasm_grammar.specs.TypeWords.{value_from}
 use Rattle.wasm_body_grammar.specs.Rules.{Around, serves, leads, latest_from, found_in, pick}

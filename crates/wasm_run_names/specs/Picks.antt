@@ -4,10 +4,10 @@ use Rattle.std.specs.Option.{option_map}
 use Rattle.walrus_forms.specs.Forms.{Form, FunctionForm, StructForm, ArrayForm}
 use Rattle.walrus_forms.specs.Kinds.{Kind}
 use Rattle.walrus_forms.specs.Renaming.{renamed_kind}
-use Rattle.wasm_immediates.specs.declared.block_type.BlockType.{BlockType}
-use Rattle.wasm_immediates.specs.declared.block_type.BlockType.TheVariants as blocks
-use Rattle.wasm_immediates.specs.Items.{Types, Block}
-use Rattle.wasm_operator_bytes.specs.Names.{Renaming}
+use Rattle.wasm_operators.specs.declared.block_type.BlockType.{BlockType}
+use Rattle.wasm_operators.specs.declared.block_type.BlockType.TheVariants as blocks
+use Rattle.wasm_operators.specs.Items.{Types, Block}
+use Rattle.wasm_operators.specs.Names.{Renaming}
 use Rattle.wasm_grammar.specs.Modules.{Module}
 use Rattle.wasm_grammar.specs.States.{types_of}
 use Rattle.wasm_body_grammar.specs.Rules.{Around, pick}

@@ -1,6 +1,6 @@
 -- What holds of all runs.
 use Rattle.std.specs.Prelude.{ℕ, ◌≡◌, List}
-use Rattle.wasm_immediates.specs.declared.block_type.BlockType.{BlockType}
+use Rattle.wasm_operators.specs.declared.block_type.BlockType.{BlockType}
 use Rattle.wasm_operators.specs.Operators.{Seen}
 use Rattle.wasm_runs.specs.Outcomes.{Outcome, Ending}
 use Rattle.wasm_runs.specs.Programs.{Signature, Program, Executed, Event}

@@ -2,8 +2,8 @@
 use Rattle.std.specs.Prelude.{List, [], ◌∷◌, map, Option, Some, None, slice_get, slice_index_or}
 use Rattle.walrus_forms.specs.Kinds.{Kind}
 use Rattle.walrus_forms.specs.Forms.{params_of, results_of}
-use Rattle.wasm_immediates.specs.declared.block_type.BlockType.{BlockType}
-use Rattle.wasm_immediates.specs.declared.block_type.BlockType.TheVariants as blocks
+use Rattle.wasm_operators.specs.declared.block_type.BlockType.{BlockType}
+use Rattle.wasm_operators.specs.declared.block_type.BlockType.TheVariants as blocks
 use Rattle.wasm_operators.specs.Operators.{Seen}
 use Rattle.wasm_grammar.specs.Modules.{Module, Function, Origin, Imported, Own, Body, Placed}
 use Rattle.wasm_grammar.specs.States.{types_of}

@@ -2,12 +2,12 @@
 use Rattle.std.specs.Prelude.{ℕ, List, [], ◌∷◌, map, Option, None, slice_get}
 use Rattle.std.specs.List.{flat_map}
 use Rattle.wasm_ref_types.specs.declared.value.ValType.{ValType}
-use Rattle.wasm_immediates.specs.declared.block_type.BlockType.{BlockType}
-use Rattle.wasm_immediates.specs.declared.clause.Clause.{Clause}
-use Rattle.wasm_immediates.specs.Items.{Space, Functions, Labels, Item, Block, ManyClauses}
+use Rattle.wasm_operators.specs.declared.block_type.BlockType.{BlockType}
+use Rattle.wasm_operators.specs.declared.clause.Clause.{Clause}
+use Rattle.wasm_operators.specs.Items.{Space, Functions, Labels, Item, Block, ManyClauses}
 use Rattle.wasm_operators.specs.declared.op_code.OpCode.{OpCode}
 use Rattle.wasm_operators.specs.Operators.{Seen}
-use Rattle.wasm_operator_bytes.specs.Names.{Name, operator_names}
+use Rattle.wasm_operators.specs.Names.{Name, operator_names}
 use Rattle.wasm_normal_form.specs.Roles.{Placed, placed}
 use Rattle.wasm_normal_form.specs.Trees.{Tree, tree_of}
 

@@ -1,8 +1,8 @@
 -- Outcomes and traces renamed, and which outcomes fit.
 use Rattle.std.specs.Prelude.{ℕ, List, map}
 use Rattle.std.specs.List.{AllByRecursion}
-use Rattle.wasm_immediates.specs.Items.{Functions, Locals, Labels}
-use Rattle.wasm_operator_bytes.specs.Names.{Renaming, renamed_value, renamed_item}
+use Rattle.wasm_operators.specs.Items.{Functions, Locals, Labels}
+use Rattle.wasm_operators.specs.Names.{Renaming, renamed_value, renamed_item}
 use Rattle.wasm_runs.specs.Outcomes.{Outcome, Enter}
 use Rattle.wasm_runs.specs.Programs.{Signature, Shown, Plain, Typed, Executed, Event}
 

@@ -1,6 +1,6 @@
 -- Runs and their traces, of whole modules and of bodies that are cut at their calls.
 use Rattle.std.specs.Prelude.{ℕ, ◌≡◌, List, [], ◌∷◌, ◌++◌, Option, Some, None}
-use Rattle.wasm_immediates.specs.declared.block_type.BlockType.{BlockType}
+use Rattle.wasm_operators.specs.declared.block_type.BlockType.{BlockType}
 use Rattle.wasm_operators.specs.Operators.{Seen}
 use Rattle.wasm_normal_form.specs.Trees.{Tree}
 use Rattle.wasm_runs.specs.Outcomes.{Outcome, Ending, Returned, Trapped, Threw, Reply, Back, Fails, Thrown, reply, taken}

@@ -1,9 +1,9 @@
 -- Operators, and what stands in traces for them.
 use Rattle.std.specs.Prelude.{ℕ, false, List, [], ◌∷◌, map, Option, Some}
 use Rattle.wasm_ref_types.specs.declared.value.ValType.{ValType}
-use Rattle.wasm_immediates.specs.declared.block_type.BlockType.TheVariants as blocks
-use Rattle.wasm_immediates.specs.declared.clause.Clause.{Clause}
-use Rattle.wasm_immediates.specs.Items.{Functions, Tags, Labels, Types, Tables, Item, Names, Block, ManyLabels, ManyClauses}
+use Rattle.wasm_operators.specs.declared.block_type.BlockType.TheVariants as blocks
+use Rattle.wasm_operators.specs.declared.clause.Clause.{Clause}
+use Rattle.wasm_operators.specs.Items.{Functions, Tags, Labels, Types, Tables, Item, Names, Block, ManyLabels, ManyClauses}
 use Rattle.wasm_operators.specs.Operators.{Seen, op_code}
 use Rattle.walrus_forms.specs.declared.value.ValType.TheVariants as own
 use Rattle.walrus_forms.specs.Kinds.{function_kind}

@@ -1,9 +1,9 @@
 -- Traces of bodies and of modules, worked by hand.
 use Rattle.std.specs.Prelude.{List, [], ◌∷◌, Option}
 use Rattle.wasm_ref_types.specs.declared.value.ValType.TheVariants.{I32, I64, F64}
-use Rattle.wasm_immediates.specs.declared.block_type.BlockType.TheVariants as blocks
-use Rattle.wasm_immediates.specs.declared.clause.Clause.TheVariants as clauses
-use Rattle.wasm_immediates.specs.Items.{Block, ManyClauses}
+use Rattle.wasm_operators.specs.declared.block_type.BlockType.TheVariants as blocks
+use Rattle.wasm_operators.specs.declared.clause.Clause.TheVariants as clauses
+use Rattle.wasm_operators.specs.Items.{Block, ManyClauses}
 use Rattle.wasm_operators.specs.Operators.{Seen}
 use Rattle.wasm_grammar.specs.Modules.{Function}
 use Rattle.wasm_runs.specs.Outcomes.{Go, Trap, Throws, Yes, No, Nth, Enter, Returns, Returned, Trapped, Threw, Waiting, Spent, Misfit}

@@ -2,19 +2,19 @@
 use Rattle.std.specs.Prelude.{Bool, List, refl}
 use Rattle.std.specs.List.{flat_map}
 use Rattle.wasm_features.specs.declared.WasmFeatures.{WasmFeatures}
-use Rattle.wasm_immediates.specs.Items.{Item}
-use Rattle.wasm_immediates.specs.Readings.{items_at}
-use Rattle.wasm_immediates.specs.Spellings.{SpellsForms}
-use Rattle.wasm_immediates.specs.Taken.{forms_taken}
-use Rattle.wasm_immediates.specs.Finals.{items_final}
+use Rattle.wasm_operators.specs.Items.{Item}
+use Rattle.wasm_operators.specs.Readings.{items_at}
+use Rattle.wasm_operators.specs.ItemSpellings.{SpellsForms}
+use Rattle.wasm_operators.specs.ItemsTaken.{forms_taken}
+use Rattle.wasm_operators.specs.ItemFinals.{items_final}
 use Rattle.wasm_operators.specs.declared.op_code.OpCode.{OpCode}
 use Rattle.wasm_operators.specs.Operators.{kind_of, code_at, Seen}
 use Rattle.wasm_operators.specs.Spellings.{SpellsCode}
 use Rattle.wasm_operators.specs.Taken.{code_taken}
 use Rattle.wasm_operators.specs.Finals.{code_final}
 use Rattle.wasm_formats.specs.Stops.{ConstExpr}
-use Rattle.wasm_operator_bytes.specs.Bytes.{code_bytes, item_bytes}
-use Rattle.wasm_operator_bytes.specs.Operators.{code_short, forms_short}
+use Rattle.wasm_operators.specs.Bytes.{code_bytes, item_bytes}
+use Rattle.wasm_operators.specs.Written.{code_short, forms_short}
 use Rattle.wasm_format_bytes.specs.Writers.{Writer, leaf_writer, checked_writer, only_writer, after_writer, built_writer}
 use Rattle.wasm_format_bytes.specs.Lists.{until_writer}
 use Rattle.wasm_grammar.specs.Values.{must}

@@ -4,7 +4,7 @@ use Rattle.std.proofs.Common.{ap, sym, ◌∙◌, subst, arith}
 use Rattle.wasm_features.specs.declared.WasmFeatures.{WasmFeatures}
 use Rattle.wasm_formats.specs.Formats.{Format, Small}
 use Rattle.wasm_formats.specs.Lists.{SpellsEntries}
-use Rattle.wasm_operator_bytes.specs.Vecs.{parts_small, parts_short}
+use Rattle.wasm_operators.specs.Vecs.{parts_small, parts_short}
 use Rattle.wasm_format_bytes.specs.Writers.{Writer, same_length}
 use Rattle.wasm_formats.specs.Joined.{built}
 use Rattle.wasm_formats.specs.Wholes.{whole, sized}

@@ -10,9 +10,9 @@ use Rattle.wasm_formats.specs.Bytes.{either_type}
 use Rattle.wasm_formats.specs.Lists.{SpellsEntries, vec}
 use Rattle.wasm_formats.specs.Led.{led}
 use Rattle.wasm_formats.specs.Wholes.{whole, sized}
-use Rattle.wasm_operator_bytes.specs.Bytes.{unsigned_bytes}
-use Rattle.wasm_operator_bytes.specs.Numbers.{shorter}
-use Rattle.wasm_operator_bytes.specs.Vecs.{parts_small, parts_short}
+use Rattle.wasm_operators.specs.Bytes.{unsigned_bytes}
+use Rattle.wasm_operators.specs.Numbers.{shorter}
+use Rattle.wasm_operators.specs.Vecs.{parts_small, parts_short}
 use Rattle.wasm_format_bytes.specs.Writers.{u32_writer, same_length}
 use Rattle.wasm_grammar.specs.States.{State}
 use Rattle.wasm_sections.specs.TypeSection.{Measured, measured, behind, Explicit, explicit, GroupEntry, single, group, sub_apart, sub_some, sub_wants, add_group}

@@ -12,10 +12,10 @@ use Rattle.walrus_forms.specs.Values.{nullable}
 use Rattle.wasm_formats.specs.declared.fault.Space.TheVariants as spaces
 use Rattle.wasm_formats.specs.declared.fault.Limited.TheVariants as limits
 use Rattle.wasm_formats.specs.Stops.{Read}
-use Rattle.wasm_operator_bytes.specs.Bytes.{unsigned_bytes}
-use Rattle.wasm_operator_bytes.specs.Laws.{WritesShortest}
-use Rattle.wasm_operator_bytes.specs.Numbers.{u32_short}
-use Rattle.wasm_operator_bytes.specs.Vecs.{parts_small, parts_short}
+use Rattle.wasm_operators.specs.Bytes.{unsigned_bytes}
+use Rattle.wasm_operators.specs.Laws.{WritesShortest}
+use Rattle.wasm_operators.specs.Numbers.{u32_short}
+use Rattle.wasm_operators.specs.Vecs.{parts_small, parts_short}
 use Rattle.wasm_format_bytes.specs.Writers.{Writer, leaf_writer, u32_writer, literal_writer, never_writer, after_writer, built_writer, either_writer}
 use Rattle.wasm_format_bytes.specs.Lists.{vec_writer}
 use Rattle.wasm_grammar.specs.Modules.{Expr}

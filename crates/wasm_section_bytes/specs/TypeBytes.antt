@@ -19,11 +19,11 @@ use Rattle.wasm_types.specs.Readings.{sub_at}
 use Rattle.wasm_types.specs.Spellings.{SpellsIndex, SpellsSupertype, declared_byte, SpellsSub}
 use Rattle.wasm_types.specs.TypesTaken.{sub_taken}
 use Rattle.wasm_types.specs.Finals.{sub_final}
-use Rattle.wasm_operator_bytes.specs.Bytes.{unsigned_bytes, vec_bytes, value_bytes}
-use Rattle.wasm_operator_bytes.specs.Laws.{WritesShortest}
-use Rattle.wasm_operator_bytes.specs.Numbers.{same_short, u32_short}
-use Rattle.wasm_operator_bytes.specs.Types.{value_short}
-use Rattle.wasm_operator_bytes.specs.Vecs.{parts_small, parts_short, vec_short}
+use Rattle.wasm_operators.specs.Bytes.{unsigned_bytes, vec_bytes, value_bytes}
+use Rattle.wasm_operators.specs.Laws.{WritesShortest}
+use Rattle.wasm_operators.specs.Numbers.{same_short, u32_short}
+use Rattle.wasm_operators.specs.Types.{value_short}
+use Rattle.wasm_operators.specs.Vecs.{parts_small, parts_short, vec_short}
 use Rattle.wasm_format_bytes.specs.Writers.{Writer, leaf_writer}
 use Rattle.wasm_sections.specs.TypeSection.{sub}
 

@@ -12,7 +12,7 @@ use Rattle.wasm_format_bytes.specs.Writers.{Writer, after_writer}
 use Rattle.wasm_format_bytes.specs.Lists.{EntriesFit}
 use Rattle.wasm_grammar.specs.wasm_operators.Operators.{Seen}
 use Rattle.wasm_grammar.specs.wasm_operators.declared.entry.Kind.{Kind}
-use Rattle.wasm_grammar.specs.wasm_operators.wasm_immediates.Spellings.{SpellsForms}
+use Rattle.wasm_grammar.specs.wasm_operators.ItemSpellings.{SpellsForms}
 use Rattle.wasm_grammar.specs.Exprs.{Known, forms_of, is_constant, seen_of, expr}
 use Rattle.wasm_grammar.specs.Modules.{Expr, Imported, Own, Table, Global, Element, Segment, Import, Export, Module}
 use Rattle.wasm_grammar.specs.States.{State, known, nothing_yet}
@@ -29,9 +29,9 @@ use Rattle.wasm_section_bytes.specs.Flags.{IsNotDeclared}
 use Rattle.wasm_section_bytes.specs.Files.{SectionFits, SectionsFit, sections_short}
 use Rattle.wasm_module_rules.specs.Linked.{Each}
 use Rattle.wasm_module_rules.specs.Keeps.{each_push, must_holds}
-use Rattle.wasm_operator_bytes.specs.Vecs.{parts_small}
-use Rattle.wasm_operator_bytes.specs.Ranges.{OperatorFits}
-use Rattle.wasm_operator_bytes.proofs.Operators.{operator_fits}
+use Rattle.wasm_operators.specs.Vecs.{parts_small}
+use Rattle.wasm_operators.specs.Ranges.{OperatorFits}
+use Rattle.wasm_operators.proofs.Operators.{operator_fits}
 use Rattle.wasm_spelled_modules.specs.Spelled.{IsSpelled, InitIsSpelled, OriginIsSpelled, ModeIsSpelled, ItemsAreSpelled, is_external, ReadSectionsAreSpelled}
 use Rattle.wasm_spelled_modules.proofs.Codes.{kind_there}
 

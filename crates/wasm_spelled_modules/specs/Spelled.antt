@@ -12,7 +12,7 @@ use Rattle.wasm_grammar.specs.States.{State}
 use Rattle.wasm_sections.specs.Laws.{ReadsSections}
 use Rattle.wasm_section_bytes.specs.Flags.{IsNotDeclared}
 use Rattle.wasm_module_rules.specs.Linked.{Each}
-use Rattle.wasm_operator_bytes.specs.Ranges.{OperatorFits}
+use Rattle.wasm_operators.specs.Ranges.{OperatorFits}
 use Rattle.wasm_spelled_modules.specs.Constants.{OfConstants}
 
 -- each operator has a spelling

@@ -3,7 +3,7 @@
 use crate::operators::words::number;
 use crate::words::cut;
 use walrus_operators::Immediates;
-use wasm_immediates::{BlockType, Clause, MemoryAccess};
+use wasm_operators::{BlockType, Clause, MemoryAccess};
 use wasm_ref_types::{AbstractHeapType, HeapType, UnpackedIndex, ValType};
 
 /// The forms in the order of the arms below: one text, as a text an arm would be dear.

@@ -5,8 +5,7 @@ use crate::operators::numbers::{FORMS, has_numbers, place};
 use crate::operators::pairing::{MADE, made};
 use crate::operators::words::{as_slice, bytes_of, nth};
 use std::alloc::Global;
-use walrus_operator_writer::write_operator;
-use walrus_operators::{Operator, OperatorError, OperatorReader};
+use walrus_operators::{Operator, OperatorError, OperatorReader, write_operator};
 use wasm_operators::OpCode;
 use wasm_reader::{BinaryReader, ErrorKind, WasmFeatures};
 

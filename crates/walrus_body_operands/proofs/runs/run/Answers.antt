@@ -1,6 +1,6 @@
 use Rattle.std.proofs.Common.{◌∙◌, ℕ, List, [], ◌∷◌, sym, ap, subst, length, true, refl, inl, inr}
 use Rattle.wasm_ref_types.specs.declared.value.ValType.{ValType}
-use Rattle.wasm_immediates.specs.Items.{Labels, Names, ManyLabels, ManyValues}
+use Rattle.wasm_operators.specs.Items.{Labels, Names, ManyLabels, ManyValues}
 use Rattle.walrus_operators.specs.declared.immediates.Immediates.{Immediates}
 use Rattle.walrus_body_steps.specs.walrus_body_nesting.Faults.{Answers}
 use Rattle.walrus_body_operands.specs.Listed.{holds_list, opened_by}

@@ -1,6 +1,6 @@
 use Rattle.std.proofs.Common.{List, [], ◌∷◌, Option, None, sym, ap, subst, inl, inr, ◌≡◌, ◌∙◌}
-use Rattle.wasm_immediates.specs.declared.clause.Clause.{Clause}
-use Rattle.wasm_immediates.specs.Items.{ManyClauses}
+use Rattle.wasm_operators.specs.declared.clause.Clause.{Clause}
+use Rattle.wasm_operators.specs.Items.{ManyClauses}
 use Rattle.wasm_formats.specs.Stops.{Trouble}
 use Rattle.walrus_operators.specs.declared.immediates.Immediates.{Immediates}
 use Rattle.walrus_operators.specs.Immediates.{items_of, kind_is}

@@ -2,7 +2,7 @@ use Rattle.std.proofs.Common.{◌≡◌, true, sym, ap, ◌∙◌}
 use Rattle.walrus_index_maps.specs.Maps.{Ids}
 use Rattle.walrus_pairing.specs.Types.{read_heap}
 use Rattle.std.specs.Prelude.{slice_get, Err}
-use Rattle.wasm_immediates.specs.Items.{Types}
+use Rattle.wasm_operators.specs.Items.{Types}
 use Rattle.walrus_body_steps.specs.walrus_body_rules.Sights.{look}
 use Rattle.walrus_body_operands.specs.Asked.{is_filed}
 use Rattle.walrus_body_operands.proofs.Told.{heap_refused}

@@ -1,5 +1,5 @@
 use Rattle.std.proofs.Common.{ℕ, ap, sym, refl, ◌∙◌}
-use Rattle.wasm_immediates.specs.Items.{Functions, Globals, Labels, Locals, Names}
+use Rattle.wasm_operators.specs.Items.{Functions, Globals, Labels, Locals, Names}
 use Rattle.std.specs.Prelude.{[], ◌∷◌, None, Option}
 use Rattle.wasm_operators.specs.declared.op_code.OpCode.{OpCode}
 use Rattle.walrus_pairing.specs.walrus_codes.Binary.{binary_lane}

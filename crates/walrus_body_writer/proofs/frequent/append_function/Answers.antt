@@ -1,6 +1,6 @@
 use Rattle.std.proofs.Common.{ℕ, refl, subst}
 use Rattle.std.specs.Prelude.{Option}
-use Rattle.wasm_immediates.specs.Items.{Functions}
+use Rattle.wasm_operators.specs.Items.{Functions}
 use Rattle.walrus_body_writer.specs.Appended.{IsAppended, named}
 use Rattle.walrus_body_writer.proofs.frequent.append_function.Goals as goal
 

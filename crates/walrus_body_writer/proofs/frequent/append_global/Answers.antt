@@ -1,6 +1,6 @@
 use Rattle.std.proofs.Common.{ℕ, refl, subst}
 use Rattle.std.specs.Prelude.{Option}
-use Rattle.wasm_immediates.specs.Items.{Globals}
+use Rattle.wasm_operators.specs.Items.{Globals}
 use Rattle.walrus_body_writer.specs.Appended.{IsAppended, named}
 use Rattle.walrus_body_writer.proofs.frequent.append_global.Goals as goal
 

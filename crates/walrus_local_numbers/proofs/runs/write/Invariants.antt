@@ -1,6 +1,6 @@
 use Rattle.std.proofs.Common.{◌≡◌, ◌++◌, length, take}
 use Rattle.std.specs.List.{flat_map}
-use Rattle.walrus_operator_writer.specs.wasm_operator_bytes.Bytes.{unsigned_bytes}
+use Rattle.walrus_operators.specs.wasm_operators.Bytes.{unsigned_bytes}
 use Rattle.walrus_local_numbers.specs.Written.{run_bytes}
 use Rattle.walrus_local_numbers.proofs.runs.write.Given as goal
 

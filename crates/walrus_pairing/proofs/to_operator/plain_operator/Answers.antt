@@ -1,5 +1,5 @@
 use Rattle.std.proofs.Common.{None}
-use Rattle.walrus_operators.specs.wasm_immediates.Items.{Functions, Globals, Locals}
+use Rattle.walrus_operators.specs.wasm_operators.Items.{Functions, Globals, Locals}
 use Rattle.walrus_index_maps.specs.Views.{indices}
 use Rattle.walrus_pairing.specs.Looks.{number_of}
 use Rattle.walrus_pairing.proofs.Reserved.{of_one, of_access, of_constant}

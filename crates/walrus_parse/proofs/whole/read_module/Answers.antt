@@ -12,7 +12,7 @@ use Rattle.walrus_named_bodies.specs.walrus_file_bodies.walrus_items_into.wasm_m
 use Rattle.walrus_named_bodies.specs.walrus_file_bodies.walrus_module_bodies.Steps.{Steps, state}
 use Rattle.walrus_named_bodies.specs.walrus_item_names.Gives.{GivesNames}
 use Rattle.walrus_named_bodies.specs.walrus_item_names.Holder.{holder}
-use Rattle.walrus_named_bodies.specs.walrus_item_names.walrus_module.walrus_body_writer.walrus_pairing.wasm_immediates.wasm_features.declared.WasmFeatures.{WasmFeatures}
+use Rattle.walrus_named_bodies.specs.walrus_item_names.walrus_module.walrus_body_writer.walrus_pairing.wasm_operators.wasm_features.declared.WasmFeatures.{WasmFeatures}
 use Rattle.walrus_named_bodies.specs.walrus_item_names.walrus_module.walrus_types.Table.{Table, entries, next_id}
 use Rattle.walrus_named_bodies.specs.walrus_item_names.walrus_module.walrus_types.walrus_items.declared.local.Local.{Local}
 use Rattle.walrus_named_bodies.specs.walrus_file_bodies.walrus_items_into.walrus_payloads_into.Customs.{AreCustoms, customs_of}

@@ -1,4 +1,4 @@
-use Rattle.wasm_immediates.specs.wasm_reader.Spellings.{final_early}
+use Rattle.wasm_composite_types.specs.wasm_reader.Spellings.{final_early}
 use Rattle.wasm_operators.specs.Operators.{code_at, operator_at}
 use Rattle.wasm_operators.specs.Finals.{code_final, operator_final}
 use Rattle.wasm_operators.proofs.laws.fronts_of_operators_end_early.Goals as goal

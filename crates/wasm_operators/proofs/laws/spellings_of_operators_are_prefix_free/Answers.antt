@@ -1,4 +1,4 @@
-use Rattle.wasm_immediates.specs.wasm_reader.Spellings.{taken_free}
+use Rattle.wasm_composite_types.specs.wasm_reader.Spellings.{taken_free}
 use Rattle.wasm_operators.specs.Operators.{code_at, operator_at}
 use Rattle.wasm_operators.specs.Spellings.{SpellsCode, SpellsEither}
 use Rattle.wasm_operators.specs.Taken.{code_taken, either_taken}

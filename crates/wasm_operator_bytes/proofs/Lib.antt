@@ -1,9 +1,0 @@
-pub mod Shortens
-pub mod Appends
-pub mod Keeps
-pub mod Digits
-pub mod Numbers
-pub mod Types
-pub mod Leaves
-pub mod Codes
-pub mod Operators

@@ -1,5 +1,0 @@
-use Rattle.wasm_operator_bytes.proofs.Operators.{operator_fits}
-use Rattle.wasm_operator_bytes.proofs.laws.operators_in_range_are_spelled.Goals as goal
-
-pub returns : goal.returns
-returns c = operator_fits

@@ -1,5 +1,0 @@
-use Rattle.wasm_operator_bytes.proofs.Operators.{operator_written}
-use Rattle.wasm_operator_bytes.proofs.laws.operators_in_range_are_written.Goals as goal
-
-pub returns : goal.returns
-returns c = operator_written
