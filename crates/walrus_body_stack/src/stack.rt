@@ -195,7 +195,7 @@ impl Stack {
         let own = ty;
         let seq = self.fresh(ty)?;
         let sort = self.noted(opener)?;
-        if self.nest.is_long() {
+        if self.nest.goes_apart() {
             return self.enter_apart(seq, sort, place, own);
         }
         let reach = inner_reach(self.nest.reach());
