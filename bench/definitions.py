@@ -13,7 +13,8 @@ import re
 import sys
 
 ROOT = os.path.dirname(os.path.dirname(os.path.abspath(__file__)))
-CRATES = """wasm_formats wasm_file_formats wasm_immediates wasm_operators wasm_operator_bytes/Names wasm_grammar wasm_sections wasm_body_grammar wasm_modules
+CRATES = """wasm_formats wasm_file_formats wasm_operators/Items wasm_operators/Readings wasm_operators/ItemSpellings wasm_operators/Table
+wasm_operators/Kinds wasm_operators/Operators wasm_operators/Spellings wasm_operators/Names wasm_grammar wasm_sections wasm_body_grammar wasm_modules
 wasm_module_rules wasm_ruled_modules wasm_module_spellings wasm_name_payloads wasm_named_modules""".split()
 SKIP = re.compile(r"\s*((pub )?use |pub mod |mod \w+$|--|module )")
 HEAD = re.compile(r"\s*(?:pub )?(?:abbrev|record|data|syntax) (?:pub )?(\S+)")
