@@ -65,14 +65,8 @@ const ROOM: usize = 2048;
 // Room that a body's list begins with: enough for most, so that it isn't copied to grow.
 const FIRST: usize = 64;
 
-// A list of more is given as it is, less its room, where all of it is asked for; what is shorter is copied, unless it has no room to spare.
+// A list of more is given as it is, less its room, where all of it is asked for; what is shorter is copied.
 const SHORT: usize = 256;
-
-// What so many sequences around one have is in the caches still when it ends.
-const DEEP: usize = 1024;
-
-// Where more lie around it, at most so many of their instructions are copied as a sequence is entered.
-const FEW: usize = 32;
 
 // Room for one more. Growth stands apart, so that what is inlined stays small.
 #[inline(always)]
@@ -107,7 +101,7 @@ fn taken(
     ensures left { OnOk result (list.new.items ≡ take begin list.old.items) }
     ensures refused { OnErr result (list.new.items ≡ list.old.items) }
 {
-    if begin == 0 && (list.len() > SHORT || list.len() == list.capacity()) {
+    if begin == 0 && list.len() > SHORT {
         let empty = Vec::new(*list.allocator());
         let mut own = mem::replace(list, empty);
         own.shrink_to_fit();
@@ -127,36 +121,9 @@ fn roomy(spare: &mut Vec<(Instr, InstrLocId)>) -> Result<Vec<(Instr, InstrLocId)
     Ok(room)
 }
 
-// Copies what a list holds to one that has room for just one more, the block that is entered; gives the list's room.
-fn copied(list: &mut Vec<(Instr, InstrLocId)>) -> Result<Vec<(Instr, InstrLocId)>, AllocError>
-    ensures room { IfOk result (λ room. room.items ≡ []) }
-    ensures same { list.new.items ≡ list.old.items }
-{
-    let mut own = Vec::new(*list.allocator());
-    own.reserve_exact(list.len().saturating_add(1))?;
-    own.append(list)?;
-    Ok(mem::replace(list, own))
-}
-
-// An empty list: of this one and the one that was kept the one with more room.
-fn roomier(
-    spare: &mut Vec<(Instr, InstrLocId)>,
-    empty: Vec<(Instr, InstrLocId)>,
-) -> Vec<(Instr, InstrLocId)>
-    requires { empty.items ≡ [] }
-    ensures { result.items ≡ [] }
-{
-    if spare.capacity() <= empty.capacity() {
-        return empty;
-    }
-    let mut room = mem::replace(spare, empty);
-    room.clear();
-    room
-}
-
-// Keeps the room of a list that is done with, unless it is large, or more is kept: then what ends next finds room there.
+// Keeps the room of a list that is done with, unless it is large: then what ends next finds room there.
 fn keep(spare: &mut Vec<(Instr, InstrLocId)>, done: Vec<(Instr, InstrLocId)>) {
-    if done.capacity() <= ROOM && done.capacity() > spare.capacity() {
+    if done.capacity() <= ROOM {
         *spare = done;
     }
 }
@@ -295,11 +262,12 @@ impl Nest {
         Ok(())
     }
 
-    // Enters a sequence whose instructions are to lie in this list.
-    fn enter_with(&mut self, frame: Frame, room: Vec<(Instr, InstrLocId)>) -> Result<(), AllocError>
-        requires { room.items ≡ [] }
+    /// The same, with a list of its own.
+    #[inline(never)]
+    pub(crate) fn enter_apart(&mut self, frame: Frame) -> Result<(), AllocError>
         ensures { OnOk result (self.new ≡ entered frame self.old) }
     {
+        let room = roomy(&mut self.spare)?;
         self.outer.push(self.inner)?;
         if let Err(error) = self.aside.push_from(&mut self.list, room) {
             let _ = self.outer.pop();
@@ -313,26 +281,10 @@ impl Nest {
         Ok(())
     }
 
-    /// The same, with a list of its own. Where the one around it isn't long, what that holds is copied while it is in the caches: when the
-    /// sequences around this one go on it has left them, and then they have their lists.
-    #[inline(never)]
-    pub(crate) fn enter_apart(&mut self, frame: Frame) -> Result<(), AllocError>
-        ensures { OnOk result (self.new ≡ entered frame self.old) }
-    {
-        let room = if self.list.len() > FEW {
-            roomy(&mut self.spare)?
-        } else {
-            let room = copied(&mut self.list)?;
-            roomier(&mut self.spare, room)
-        };
-        self.enter_with(frame, room)
-    }
-
     /// Whether what is entered gets a list of its own.
     #[inline(always)]
-    pub(crate) fn goes_apart(&self) -> bool {
-        let count = self.list.len();
-        count >= LONG || (count <= FEW && self.outer.len() >= DEEP)
+    pub(crate) fn is_long(&self) -> bool {
+        self.list.len() >= LONG
     }
 
     /// Takes the innermost one's instructions.

@@ -195,7 +195,7 @@ impl Stack {
         let own = ty;
         let seq = self.fresh(ty)?;
         let sort = self.noted(opener)?;
-        if self.nest.goes_apart() {
+        if self.nest.is_long() {
             return self.enter_apart(seq, sort, place, own);
         }
         let reach = inner_reach(self.nest.reach());
