@@ -6,9 +6,9 @@ ghost use Rattle.walrus_operators.specs.Appended.{Appends, AppendsItems};
 ghost use Rattle.walrus_operators.specs.wasm_operators.Items as items;
 ghost use Rattle.wasm_operators.specs.Bytes.{access_bytes, clause_bytes, unsigned_bytes, value_bytes, vec_bytes};
 
+use crate::immediates::Immediates;
 use crate::write_types::{write_block_type, write_heap_type, write_value_type};
 use std::alloc::AllocError;
-use walrus_operators::Immediates;
 use wasm_operators::{
     BlockType, Clause, MemoryAccess, write_bits32, write_bits64, write_byte, write_bytes,
     write_signed, write_unsigned,

@@ -5,11 +5,10 @@ ghost use Rattle.walrus_operators.specs.Operators.{seen};
 ghost use Rattle.walrus_operators.specs.Appended.{Appends};
 ghost use Rattle.wasm_operators.specs.Bytes.{code_bytes, operator_bytes, unsigned_bytes};
 
+use crate::operator::Operator;
 use crate::write::write_immediates;
 use std::alloc::AllocError;
-use walrus_operators::Operator;
-use walrus_operators::operator_table::OpCode;
-use wasm_operators::{write_byte, write_unsigned};
+use wasm_operators::{OpCode, write_byte, write_unsigned};
 
 #[tactic(auto, using(crate::proofs::Appends::appends_on))]
 fn write_prefixed(out: &mut Vec<u8>, prefix: u8, number: u32) -> Result<(), AllocError>

@@ -1,7 +1,7 @@
 //! Accesses to memory (Core Specification, binary format: memory instructions).
 
 /// Where an operator accesses memory, as it is written: nothing is tested of the alignment, of the offset and of the memory.
-/// (`wasm_operators::read_access` reads one.)
+/// (`read_access` reads one.)
 #[derive(Clone, Copy, PartialEq, Eq)]
 pub struct MemoryAccess {
     /// The logarithm of the alignment in bytes, to the base 2.
