@@ -6,7 +6,7 @@ same operators, and prints the ratios, the memory an instruction and the time an
 
 Each body stands in a file, and is in normal form: what is written is the body again. A time is the processor's, the system's calls
 included, of a whole run less that of one that does no more than load the file (the loop in C: that reads an empty one), the least of the
-rounds, in each of which all run by turns; memory is the greatest that a run holds, less that of one that loads the file, over the
+rounds, in each of which all run by turns, memory being touched before each (`back` of bench/compare.py); memory is the greatest that a run holds, less that of one that loads the file, over the
 instructions of the tree: of few instructions it says nothing. Each is measured twice: with large pages, for which the programs in bin/ have the C library ask, and with
 small ones. A tree takes some twenty times the memory of its code, of which the loop in C touches none, and the kernel's work for new pages
 of 4 KiB is a third of the time of parsing; pages of 2 MiB round the memory up by one or two of them. With large pages the C library also
@@ -21,7 +21,7 @@ import sys
 import tempfile
 
 sys.path.insert(0, os.path.dirname(os.path.abspath(__file__)))
-from compare import LARGE_PAGES  # noqa: E402
+from compare import LARGE_PAGES, back  # noqa: E402
 from operators import signed, unsigned  # noqa: E402
 
 ROOT = os.path.dirname(os.path.dirname(os.path.abspath(__file__)))
@@ -128,17 +128,18 @@ def body(chance, count, some_locals, depth):
     return b"\x01" + unsigned(some_locals) + b"\x7f", used + code + b"\x0b"
 
 
-def measured(settings, *words):
-    """The seconds of the processor that one run takes, the kilobytes that it holds at most, and what it prints."""
+def measured(size, settings, *words):
+    """The seconds of the processor that one run takes, the kilobytes that it holds at most, and what it prints, beside so many mebibytes."""
+    back(size)
     run = subprocess.run(words, capture_output=True, text=True, check=True, env={**os.environ, **settings})
     took, held = run.stderr.split()[-2:]
     return int(took) / 1e6, int(held), run.stdout
 
 
-def in_turns(rounds, runs):
+def in_turns(rounds, size, runs):
     """Of each run the least time and memory of the rounds, and what it prints. Each round has all of them, so that what disturbs the machine for
     seconds disturbs all."""
-    found = [{name: measured(*run) for name, run in runs.items()} for _ in range(rounds)]
+    found = [{name: measured(size, *run) for name, run in runs.items()} for _ in range(rounds)]
     return {name: (min(it[name][0] for it in found), min(it[name][1] for it in found), found[0][name][2]) for name in runs}
 
 
@@ -170,7 +171,7 @@ def main():
             runs = {way: ({}, runner, loop, of, "read") for way, of in (("decoded", code), ("nothing", "/dev/null"))}
             for pages, settings in PAGES:
                 runs |= {(pages, way): (settings, runner, ours, "body", file, way) for way in ("load", "parse", "both")}
-            found = in_turns(asked.rounds, runs)
+            found = in_turns(asked.rounds, 64 + count // 10**4, runs)
             decoded = found["decoded"][0] - found["nothing"][0]
             seen = int(found["decoded"][2].split()[0])
             for pages, _ in PAGES:

@@ -8,8 +8,8 @@ the kit's hash tables, whose seed is fixed; those of the next differ in their la
 all have; those of the last are plain. Types are function types of ten parameters, in no order, behind fifty more that all
 have in common, or without these; those of the last row are of ten lists of 14 parameters, and the first halves of their hashes are
 all the same. A time is the least of the rounds, from the start of the program to its end, and in brackets its own part of that, without the
-system's (as the kernel samples it: of some hundredths of a second it says little): on some hosts new pages alone
-(bench/pages.c) take seven times the time for twice as many. Wanted is a factor of at most 2.2 a doubling. The sizes take turns, so that
+system's (as the kernel samples it: of some hundredths of a second it says little). Memory is touched before each run, as on some hosts new
+pages alone take seven times the time for twice as many (`back` of bench/compare.py, bench/pages.c). Wanted is a factor of at most 2.2 a doubling. The sizes take turns, so that
 what else the machine does meets all of them alike. With --instructions those of the processor are counted by valgrind, which no other work
 and no cache disturbs, in place of the time. The C library asks for large pages, as it does for the programs in bin/, unless --small-pages
 is given.
@@ -22,7 +22,7 @@ import subprocess
 import sys
 import tempfile
 
-from compare import LARGE_PAGES
+from compare import LARGE_PAGES, back
 from make_module import section, unsigned, vector
 
 ROOT = os.path.dirname(os.path.dirname(os.path.abspath(__file__)))
@@ -98,6 +98,7 @@ ROWS = [
 
 def seconds(words, settings):
     """The seconds of the processor that a program took, and those that it took itself."""
+    back()
     before = resource.getrusage(resource.RUSAGE_CHILDREN)
     subprocess.run(words, check=True, stdout=subprocess.DEVNULL, env={**os.environ, **settings})
     after = resource.getrusage(resource.RUSAGE_CHILDREN)

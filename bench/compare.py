@@ -43,6 +43,20 @@ def install():
 
 # What bin/program sets: the C library asks for large pages.
 LARGE_PAGES = {"GLIBC_TUNABLES": "glibc.malloc.hugetlb=1"}
+TOUCH = """
+import mmap, sys
+size = int(sys.argv[1]) << 20
+pages = mmap.mmap(-1, size, flags=mmap.MAP_PRIVATE | mmap.MAP_ANONYMOUS)
+pages.madvise(mmap.MADV_HUGEPAGE)
+pages[::4096] = bytes(size >> 12)
+"""
+
+
+def back(mebibytes=1536):
+    """Touches so much memory and gives it back, so that pages that a program gets next are at hand: some hosts take those that a virtual
+    machine hasn't used for two seconds, and to bring one back costs seven times what a new page costs (bench/pages.c). It does so in a
+    process of its own, as what this one has resident counts as its children's too."""
+    subprocess.run([sys.executable, "-c", TOUCH, str(mebibytes)], check=True)
 
 
 def measured(words, settings=None):

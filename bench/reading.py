@@ -4,7 +4,7 @@
     bench/reading.py [--rounds N] [--scale N] [--small-pages] [FILE..]
 
 A time is the least of the rounds, in seconds by the clock; memory is the most that was resident. In each round wasm-opt runs once and
-walrus_inspect three times, so that what disturbs the machine disturbs both. wasm-opt reads the file and writes it again.
+walrus_inspect three times, so that what disturbs the machine disturbs both; memory is touched before each (`back` of bench/compare.py). wasm-opt reads the file and writes it again.
 Wanted are 15 times less time and half of the memory, and at most 2.2 times the time for twice the count. walrus_inspect runs as
 bin/walrus_inspect starts it, which has the C library ask for large pages, unless --small-pages is given. --scale divides the counts. Files
 that are named are measured instead. binaryen is installed where it is missing.
@@ -15,7 +15,7 @@ import subprocess
 import sys
 import tempfile
 
-from compare import LARGE_PAGES, install, measured
+from compare import LARGE_PAGES, back, install, measured
 
 ROOT = os.path.dirname(os.path.dirname(os.path.abspath(__file__)))
 CRATE = f"{ROOT}/crates/walrus_inspect_cli"
@@ -35,12 +35,17 @@ def least(runs):
     return min(clocks), max(memories)
 
 
+def taken(words, settings):
+    back()
+    return measured(words, settings)
+
+
 def row(what, file, rounds, settings, before):
     """Prints the figures of a file, beside those of the one before it, and returns our time."""
     own, other = [], []
     for _ in range(rounds):
-        own += [measured([PROGRAM, file], settings) for _ in range(3)]
-        other.append(measured(["wasm-opt", "--all-features", file, "-o", os.devnull], None))
+        own += [taken([PROGRAM, file], settings) for _ in range(3)]
+        other.append(taken(["wasm-opt", "--all-features", file, "-o", os.devnull], None))
     ours, memory = least(own)
     theirs, much = least(other)
     size = os.path.getsize(file)
