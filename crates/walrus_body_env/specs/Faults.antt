@@ -1,5 +1,7 @@
--- Why a body is refused: the number of a fault and its place; what a validator's call answers.
-use Rattle.std.specs.Prelude.{◌≡◌, ℕ, Option, Some, None, Result, Ok, Err}
+-- Why a body is refused: the number of a fault, its text and its place; what a validator's call answers.
+use Rattle.std.specs.Prelude.{◌≡◌, ℕ, List, ◌++◌, codes, Option, Some, None, Result, Ok, Err}
+use Rattle.wasm_formats.specs.Texts.{form_text, limited_text, space_text}
+use Rattle.walrus_operators.specs.wasm_operators.wasm_reader.Messages.{message_of}
 use Rattle.walrus_operators.specs.wasm_operators.wasm_reader.declared.error.Error.{Error}
 use Rattle.walrus_operators.specs.wasm_operators.wasm_reader.declared.error.ErrorKind.{ErrorKind}
 use Rattle.walrus_operators.specs.wasm_operators.wasm_reader.declared.error.ErrorKind.TheVariants as kinds
@@ -18,6 +20,19 @@ number_of (Bounds _) = 15
 number_of (Limit _ _) = 16
 number_of NoTree = 19
 number_of Memory = 21
+
+abbrev pub body_error_text : BodyError → List ℕ
+body_error_text (Read e) = message_of e.kind
+body_error_text (Index space _) = codes "index of a " ++ space_text space ++ codes " is out of range"
+body_error_text (TypeForm _) = codes "a function type is needed"
+body_error_text (Nesting _) = codes "blocks do not nest"
+body_error_text (Position _) = codes "operator may not stand here"
+body_error_text (Operator _) = codes "unknown operator"
+body_error_text (Unsupported form _) = codes "not supported: " ++ form_text form
+body_error_text (Bounds _) = codes "number out of bounds"
+body_error_text (Limit limited _) = codes "limit passed: " ++ limited_text limited
+body_error_text NoTree = codes "instructions form no tree"
+body_error_text Memory = codes "out of memory"
 
 abbrev pub offset_of : BodyError → Option ℕ
 offset_of (Read e) = Some e.offset

@@ -1,7 +1,7 @@
 //! Why a body is refused, and where.
 
-ghost use Rattle.std.specs.Prelude.{◌≡◌};
-ghost use Rattle.walrus_body_env.specs.Faults.{number_of, offset_of};
+ghost use Rattle.std.specs.Prelude.{◌≡◌, Some};
+ghost use Rattle.walrus_body_env.specs.Faults.{body_error_text, number_of, offset_of};
 ghost use Rattle.walrus_body_env.specs.declared.error.BodyError.TheVariants.{Memory};
 
 use std::alloc::{AllocError, AllocFailed};
@@ -77,6 +77,8 @@ impl BodyError {
 }
 
 impl fmt::Display for BodyError {
+    ghost output = { λ fault. Some (body_error_text fault) };
+
     fn fmt<W: fmt::Write>(&self, f: &mut fmt::Formatter<W>) -> fmt::Result {
         match self {
             BodyError::Read(error) => write!(f, "{}", error.message()),

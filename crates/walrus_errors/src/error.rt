@@ -1,7 +1,8 @@
 //! The refusals of calls on modules, and where they stand.
-ghost use Rattle.std.specs.Prelude.{◌≡◌};
+ghost use Rattle.std.specs.Prelude.{◌≡◌, Some};
 ghost use Rattle.walrus_errors.specs.declared.error.ModuleError.TheVariants.{Memory};
 ghost use Rattle.walrus_errors.specs.Refusals.{offset_of, refusal_of};
+ghost use Rattle.walrus_errors.specs.Texts.{error_text, kind_text};
 
 use std::alloc::{AllocError, AllocFailed};
 use std::{error, fmt};
@@ -19,6 +20,8 @@ pub enum ErrorKind {
 }
 
 impl fmt::Display for ErrorKind {
+    ghost output = { λ kind. Some (kind_text kind) };
+
     fn fmt<W: fmt::Write>(&self, f: &mut fmt::Formatter<W>) -> fmt::Result {
         match self {
             ErrorKind::InvalidWasm => write!(f, "The input WebAssembly is invalid"),
@@ -115,6 +118,8 @@ impl ModuleError {
 }
 
 impl fmt::Display for ModuleError {
+    ghost output = { λ error. Some (error_text error) };
+
     fn fmt<W: fmt::Write>(&self, f: &mut fmt::Formatter<W>) -> fmt::Result {
         match self {
             ModuleError::Read(error) => write!(f, "{}", error.message()),

@@ -1,3 +1,4 @@
 pub mod Maps
 pub mod Views
 pub mod Runs
+pub mod Texts

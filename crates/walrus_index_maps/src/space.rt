@@ -1,5 +1,8 @@
 //! What indices number.
 
+ghost use Rattle.std.specs.Prelude.{Some};
+ghost use Rattle.walrus_index_maps.specs.Texts.{space_text};
+
 use std::fmt;
 
 /// What an index numbers (Core Specification, modules: indices).
@@ -28,6 +31,8 @@ pub enum Space {
 }
 
 impl fmt::Display for Space {
+    ghost output = { λ space. Some (space_text space) };
+
     fn fmt<W: fmt::Write>(&self, f: &mut fmt::Formatter<W>) -> fmt::Result {
         f.write_str(match self {
             Space::Type => "type",

@@ -6,6 +6,7 @@ pub mod Led
 pub mod Lists
 pub mod Parts
 pub mod Stops
+pub mod Texts
 pub mod Wholes
 pub mod Until
 -- Passed on to crates above, which then list this one alone.

@@ -1,5 +1,8 @@
 //! Words of the faults of a module.
 
+ghost use Rattle.std.specs.Prelude.{Some};
+ghost use Rattle.wasm_formats.specs.Texts.{form_text, limited_text, space_text};
+
 use std::fmt;
 
 /// A kind of item that an index names.
@@ -52,6 +55,8 @@ pub enum Limited {
 }
 
 impl fmt::Display for Space {
+    ghost output = { λ word. Some (space_text word) };
+
     fn fmt<W: fmt::Write>(&self, f: &mut fmt::Formatter<W>) -> fmt::Result {
         match self {
             Space::Type => write!(f, "type"),
@@ -69,6 +74,8 @@ impl fmt::Display for Space {
 }
 
 impl fmt::Display for Form {
+    ghost output = { λ word. Some (form_text word) };
+
     fn fmt<W: fmt::Write>(&self, f: &mut fmt::Formatter<W>) -> fmt::Result {
         match self {
             Form::SharedTable => write!(f, "shared table"),
@@ -82,6 +89,8 @@ impl fmt::Display for Form {
 }
 
 impl fmt::Display for Limited {
+    ghost output = { λ word. Some (limited_text word) };
+
     fn fmt<W: fmt::Write>(&self, f: &mut fmt::Formatter<W>) -> fmt::Result {
         match self {
             Limited::Types => write!(f, "types"),
