@@ -7,8 +7,9 @@ Exports are read by both programs, types by walrus_inspect alone. The names of o
 the kit's hash tables, whose seed is fixed; those of the next differ in their last bytes alone, behind a long prefix that
 all have; those of the last are plain. Types are function types of ten parameters, in no order, behind fifty more that all
 have in common, or without these; those of the last row are of ten lists of 14 parameters, and the first halves of their hashes are
-all the same. A time is the least of the rounds, from the start of the program to its end, and in brackets its own part of that, without the
-system's (as the kernel samples it: of some hundredths of a second it says little). Memory is touched before each run, as on some hosts new
+all the same. A time is the middle one of the rounds, from the start of the program to its end, and in brackets its own part of that, without the
+system's (as the kernel samples it: of some hundredths of a second it says little); behind it stands the least. Where a host swings by a third,
+short runs find a quiet moment more often than long ones, so that of the least the factors are higher and lower by turns. Memory is touched before each run, as on some hosts new
 pages alone take seven times the time for twice as many (`back` of bench/compare.py, bench/pages.c). Wanted is a factor of at most 2.2 a doubling. The sizes take turns, so that
 what else the machine does meets all of them alike. With --instructions those of the processor are counted by valgrind, which no other work
 and no cache disturbs, in place of the time. The C library asks for large pages, as it does for the programs in bin/, unless --small-pages
@@ -18,6 +19,7 @@ import argparse
 import os
 import re
 import resource
+import statistics
 import subprocess
 import sys
 import tempfile
@@ -145,10 +147,12 @@ def main():
                     took[count].append(cost([program, f"{folder}/{count}.wasm", *output], settings))
             last = None
             for count in sizes:
-                best, own = min(took[count])
-                factor = f", {best / last[0]:.2f} times ({own / last[1]:.2f})" if last else ""
-                print(f"{count:,} {kind}: {best:.3f} ({own:.3f}) {unit}{factor}", flush=True)
-                last = best, max(own, 0.001)
+                times = [all_of_it for all_of_it, _ in took[count]]
+                middle, least = statistics.median(times), min(times)
+                own = statistics.median(own for _, own in took[count])
+                factor = f", {middle / last[0]:.2f} times ({own / last[1]:.2f}), the least {least / last[2]:.2f}" if last else ""
+                print(f"{count:,} {kind}: {middle:.3f} ({own:.3f}) {unit}, the least {least:.3f}{factor}", flush=True)
+                last = middle, max(own, 0.001), least
 
 
 if __name__ == "__main__":

@@ -3,7 +3,8 @@
 
     bench/reading.py [--rounds N] [--scale N] [--small-pages] [FILE..]
 
-A time is the least of the rounds, in seconds by the clock; memory is the most that was resident. In each round wasm-opt runs once and
+A time is the least of the rounds, in seconds by the clock, and what it is of that of half the count is told by the middle ones (bench/collisions.py says why);
+memory is the most that was resident. In each round wasm-opt runs once and
 walrus_inspect three times, so that what disturbs the machine disturbs both; memory is touched before each (`back` of bench/compare.py). wasm-opt reads the file and writes it again.
 Wanted are 15 times less time and half of the memory, and at most 2.2 times the time for twice the count. walrus_inspect runs as
 bin/walrus_inspect starts it, which has the C library ask for large pages, unless --small-pages is given. --scale divides the counts. Files
@@ -11,6 +12,7 @@ that are named are measured instead. binaryen is installed where it is missing.
 """
 import argparse
 import os
+import statistics
 import subprocess
 import sys
 import tempfile
@@ -32,7 +34,7 @@ def build():
 
 def least(runs):
     clocks, _, memories = zip(*runs)
-    return min(clocks), max(memories)
+    return min(clocks), max(memories), statistics.median(clocks)
 
 
 def taken(words, settings):
@@ -41,17 +43,17 @@ def taken(words, settings):
 
 
 def row(what, file, rounds, settings, before):
-    """Prints the figures of a file, beside those of the one before it, and returns our time."""
+    """Prints the figures of a file, beside those of the one before it, and returns the middle one of our times."""
     own, other = [], []
     for _ in range(rounds):
         own += [taken([PROGRAM, file], settings) for _ in range(3)]
         other.append(taken(["wasm-opt", "--all-features", file, "-o", os.devnull], None))
-    ours, memory = least(own)
-    theirs, much = least(other)
+    ours, memory, middle = least(own)
+    theirs, much, _ = least(other)
     size = os.path.getsize(file)
-    doubled = f"{ours / before:.2f}" if before else ""
+    doubled = f"{middle / before:.2f}" if before else ""
     print(f"| {what} | {size / 1e6:.1f} | {ours:.3f} | {doubled} | {theirs:.3f} | {theirs / ours:.1f} | {memory / 2**20:.0f} | {memory / much:.2f} |", flush=True)
-    return ours
+    return middle
 
 
 def main():
