@@ -1,5 +1,5 @@
 -- The test of a tree along its text: what it keeps, and one step of it.
-use Rattle.std.specs.Prelude.{◌≡◌, ◌↔◌, ◌≤◌, ℕ, ◌+◌, Bool, true, false, ◌&&◌, List, [], ◌∷◌, ◌++◌, drop, length, Option, Some, None, slice_get, slice_index_or}
+use Rattle.std.specs.Prelude.{◌≡◌, ◌↔◌, ◌≤◌, ℕ, ◌+◌, Bool, true, false, not, ◌&&◌, List, [], ◌∷◌, ◌++◌, drop, length, Option, Some, None, slice_get, slice_index_or}
 use Rattle.walrus_tree.specs.walrus_walks.walrus_instr.declared.instr.Instr.{Instr}
 use Rattle.walrus_tree.specs.walrus_walks.walrus_instr.declared.instr.Instr.TheVariants.{Br, BrIf, BrTable, BrOnNull, BrOnNonNull, BrOnCast, BrOnCastFail, Rethrow, Try, TryTable}
 use Rattle.walrus_tree.specs.walrus_walks.walrus_instr.declared.seq.InstrLocId.{InstrLocId}
@@ -13,7 +13,7 @@ use Rattle.walrus_body_text.specs.declared.depths.Depths.{Depths}
 use Rattle.walrus_body_text.specs.declared.todo.Place.{Place}
 use Rattle.walrus_body_text.specs.declared.todo.Todo.{Todo}
 use Rattle.walrus_body_text.specs.declared.todo.Todo.TheVariants.{Enter, Inside}
-use Rattle.walrus_body_text.specs.Doing.{opened, marks_after, height_after, place_of}
+use Rattle.walrus_body_text.specs.Doing.{holds, opened, marks_after, height_after, place_of}
 use Rattle.walrus_body_text.specs.Walking.{State, state}
 
 -- ---- what is left, as a part of a tree
@@ -73,6 +73,11 @@ may_begin ms (Inside _) = true
 abbrev pub passes_in : List Mark → ℕ → Option (Instr × InstrLocId) → Bool
 passes_in ms height (Some i) = within ms height i.0
 passes_in ms height None = true
+
+-- an instruction stands there that holds no sequence, and its labels name what is open
+abbrev pub is_plain : List Mark → ℕ → Option (Instr × InstrLocId) → Bool
+is_plain ms height (Some i) = not (holds i.0) && within ms height i.0
+is_plain ms height None = false
 
 abbrev pub passes_at : List Mark → ℕ → ℕ → Option InstrSeq → Bool
 passes_at ms height next (Some s) = passes_in ms height (slice_get s.instrs.items next)

@@ -4,7 +4,7 @@ ghost use Rattle.std.specs.Prelude.{◌≡◌, ◌+◌, ◌<◌, ◌++◌, [], �
 ghost use Rattle.walrus_tree.specs.Testing.{within};
 ghost use Rattle.walrus_body_text.specs.Doing.{depths_after, entering, height_after, holds, marks_after, place_of};
 ghost use Rattle.walrus_body_text.specs.Walking.{Advances, state};
-ghost use Rattle.walrus_body_text.specs.Tested.{may_begin, passes};
+ghost use Rattle.walrus_body_text.specs.Tested.{is_plain, may_begin, passes};
 
 use crate::depths::Depths;
 use crate::todo::{Closer, Met, Place, Todo, push_held};
@@ -80,6 +80,7 @@ pub fn plain_at<'a>(
     at: usize,
 ) -> Option<&'a (Instr, InstrLocId)>
     ensures item { IfSome (option_copied result) (λ x. (slice_get seq.now.instrs.items at ≡ Some x) × (holds x.0 ≡ false) × (within depths.now.marks.items depths.now.height x.0 ≡ true)) }
+    ensures there { is_some result ≡ is_plain depths.now.marks.items depths.now.height (slice_get seq.now.instrs.items at) }
     ensures room { OnSome result (at < 18446744073709551615) }
 {
     let Some(item) = item_at(seq, at) else {

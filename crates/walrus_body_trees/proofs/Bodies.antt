@@ -28,24 +28,25 @@ use Rattle.walrus_meaning.specs.walrus_local_function.walrus_body_parser.walrus_
 use Rattle.walrus_body_trees.proofs.Texts.{body_tells, first_fits, fit_all, normal_fits}
 use Rattle.walrus_body_trees.proofs.Sizes.{body_size}
 
-abbrev AreSpelled : Type 0
+abbrev pub AreSpelled : Type 0
 AreSpelled = (features : WasmFeatures) → SpelledIfFits (SpellsOperator features) operator_bytes (OperatorFits features)
 
-all_front : (xs ys : List ℕ) → All (λ b. b < 256) (xs ++ ys) → All (λ b. b < 256) xs × All (λ b. b < 256) ys
+pub all_front : (xs ys : List ℕ) → All (λ b. b < 256) (xs ++ ys) → All (λ b. b < 256) xs × All (λ b. b < 256) ys
 all_front [] ys h = (All-nil (λ b. b < 256), h)
 all_front (x ∷ xs) ys h =
     let rest = all_front xs ys (All-tail (λ b. b < 256) x (xs ++ ys) h) in
     (All-cons (λ b. b < 256) x xs (All-head (λ b. b < 256) x (xs ++ ys) h) rest.0, rest.1)
 
 module _ (spelled : AreSpelled) (a : Around) (locals : ℕ) where
-  one_fits : (p : Point) (bytes : List ℕ) (x : ℕ × Seen) → All (λ b. b < 256) bytes → (operator_in a locals p).spells bytes x → OperatorFits a.features x.1
+  pub one_fits : (p : Point) (bytes : List ℕ) (x : ℕ × Seen) → All (λ b. b < 256) bytes → (operator_in a locals p).spells bytes x → OperatorFits a.features x.1
   one_fits p bytes x small s = go (is_closed p.frames) s.0
     where
       go : (c : Bool) → either_type c ⊥ ((operator a.features).spells bytes x.1) → OperatorFits a.features x.1
       go true h = absurd h
       go false h = (spelled a.features).only bytes x.1 small (subst (λ o. SpellsEither a.features bytes o) h.1 h.2)
 
-  fit : (ops : List (ℕ × Seen)) (p : Point) (bytes : List ℕ) → All (λ b. b < 256) bytes → SpellsEntries next_point (operator_in a locals) p bytes ops → AllFit a.features ops
+  -- the operators of a body that meets the grammar fit their codes
+  pub fit : (ops : List (ℕ × Seen)) (p : Point) (bytes : List ℕ) → All (λ b. b < 256) bytes → SpellsEntries next_point (operator_in a locals) p bytes ops → AllFit a.features ops
   fit [] p bytes small s = tt
   fit (x ∷ xs) p bytes small s =
       let parts = all_front s.0 s.1 (subst (All (λ b. b < 256)) s.2 small) in

@@ -140,14 +140,14 @@ module _ (P : Instr → Type 0) where
       go true e later = each_at r.ops (n - r.first) i h.0 e
       go false e later = later e
 
-  bytes_have : (rs : List (Run Instr)) (code : OpCode) (i : Instr) → InAll rs → of_bytes rs code ≡ Some i → P i
+  pub bytes_have : (rs : List (Run Instr)) (code : OpCode) (i : Instr) → InAll rs → of_bytes rs code ≡ Some i → P i
   bytes_have rs code i h e = go (code.prefix == 0) e
     where
       go : (c : Bool) → (if c then in_runs rs code.number else None) ≡ Some i → P i
       go true e = runs_have rs code.number i h e
       go false e = absurd cc
 
-  objects_have : (rs os : List (Run Instr)) (code : OpCode) (i : Instr) → InAll rs → InAll os → of_objects rs os code ≡ Some i → P i
+  pub objects_have : (rs os : List (Run Instr)) (code : OpCode) (i : Instr) → InAll rs → InAll os → of_objects rs os code ≡ Some i → P i
   objects_have rs os code i h g e = go (code.prefix == 0xfb) e
     where
       go : (c : Bool) → (if c then in_runs os code.number else of_bytes rs code) ≡ Some i → P i
@@ -181,7 +181,7 @@ module _ (back : OperatorComesBack) (features : WasmFeatures) (s : Sight) (aroun
   abbrev renames : Space → ℕ → ℕ
   renames space n = value_of (look s space n)
 
-  read_stands : (op : Seen) (i : Instr) → OperatorFits features op → instr_at (look s) op ≡ Ok (Some i) → StandsIn around i
+  pub read_stands : (op : Seen) (i : Instr) → OperatorFits features op → instr_at (look s) op ≡ Ok (Some i) → StandsIn around i
   read_stands op i fits e = plain_stands around i _ (back renames (look s) all (λ space n id f. ap (λ (o : Option ℕ). Some (value_of o)) (sym f)) features op i fits e)
 
   pub run_stands : (op : Seen) (i : Instr) → RunsAs s around op.code op.items i → OperatorFits features op → Names1 (length around) op → StandsIn around i

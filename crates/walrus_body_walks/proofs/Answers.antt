@@ -20,7 +20,8 @@ use Rattle.walrus_body_trees.specs.Laws.{ops_of}
 use Rattle.walrus_body_walks.specs.Answers.{AllAre, AnswersAre, HandlersAre, IsAnswer, Looked, OfParams, OfResults, OfBlock, OfHandler, block_items, value_items, without_handlers}
 use Rattle.walrus_handler_laws.specs.Handlers.{tree_ids}
 use Rattle.walrus_body_walks.specs.Laws.{HandlersHaveAnswers, IsRead, TriesHaveAnswers, WalksNameAnswers, try_type}
-use Rattle.walrus_body_walks.proofs.Fitting.{AreSpelled, body_fits}
+use Rattle.walrus_body_trees.proofs.Bodies.{AreSpelled}
+use Rattle.walrus_body_walks.proofs.Fitting.{body_fits}
 use Rattle.walrus_body_walks.proofs.Told.{Told, all_later, are_told, told_are}
 use Rattle.walrus_body_walks.proofs.Sequences.{Inside, inside_of}
 use Rattle.walrus_body_walks.proofs.Slots.{told_has}

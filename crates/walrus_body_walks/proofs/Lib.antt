@@ -1,4 +1,5 @@
-mod Fitting
+pub mod Fitting
+pub mod Meeting
 mod Told
 mod Types
 mod Instrs
@@ -6,3 +7,5 @@ mod Sequences
 mod Walks
 mod Slots
 pub mod Answers
+-- Passed on to crates above, which then list this one alone.
+pub use Rattle.walrus_body_trees.proofs as walrus_body_trees

@@ -23,62 +23,15 @@ use Rattle.walrus_handler_laws.specs.walrus_body_steps.walrus_body_rules.Sights.
 use Rattle.walrus_handler_laws.specs.walrus_body_steps.Meanings.{TurnsTo, meaning}
 use Rattle.walrus_body_walks.specs.Answers.{AllAre, AnswersAre, value_items}
 use Rattle.walrus_body_walks.proofs.Fitting.{RunsFit}
+use Rattle.walrus_body_walks.proofs.Meeting.{New, Stays, either_bool, new_back, new_front, new_one, not_both, seen_at, with_cases, with_here, with_stays}
 use Rattle.walrus_body_walks.proofs.Told.{Told, all_later, told_are}
 use Rattle.walrus_body_walks.proofs.Types.{handler_has, results_good, tag_good, written_told}
 use Rattle.walrus_body_walks.proofs.Instrs.{Fine, Parts, TurnGood, made_fine, run_fine}
 
--- ---- sequences that are met
-
--- what was met stays so
-abbrev Stays : (ℕ → Bool) → (ℕ → Bool) → Type 0
-Stays met done = (j : ℕ) → met j ≡ true → done j ≡ true
-
--- it was met in between
-abbrev pub New : (ℕ → Bool) → (ℕ → Bool) → ℕ → Type 0
-New met done j = (met j ≡ false) × (done j ≡ true)
-
-not_both : (b : Bool) → b ≡ true → b ≡ false → ⊥
-not_both b h g = cc
-
-either_bool : (b : Bool) → (b ≡ true) ⊎ (b ≡ false)
-either_bool true = inl refl
-either_bool false = inr refl
-
-old : (met done : ℕ → Bool) → Stays met done → (j : ℕ) → done j ≡ false → met j ≡ false
-old met done stays j h = elim (either_bool (met j)) as (λ _. met j ≡ false) [ inl e ↦ absurd (not_both (done j) (stays j e) h) | inr e ↦ e ]
-
-with_here : (k : ℕ) (met : ℕ → Bool) → with k met k ≡ true
-with_here k met = ap (λ (c : Bool). if c then true else met k) (eq-eqb k k refl)
-
-with_stays : (k : ℕ) (met : ℕ → Bool) → Stays met (with k met)
-with_stays k met j h = go (j == k)
-  where
-    go : (c : Bool) → (if c then true else met j) ≡ true
-    go true = refl
-    go false = h
-
--- met with one more: it is that one, or was met
-with_cases : (k : ℕ) (met : ℕ → Bool) (j : ℕ) → (j ≡ k) ⊎ (with k met j ≡ met j)
-with_cases k met j = elim (either_bool (j == k)) as (λ _. (j ≡ k) ⊎ (with k met j ≡ met j)) [ inl e ↦ inl (eqb-true j k e) | inr e ↦ inr (ap (λ (c : Bool). if c then true else met j) e) ]
-
-new_one : (k : ℕ) (met done : ℕ → Bool) (j : ℕ) → New (with k met) done j → New met done j
-new_one k met done j h = (old met (with k met) (with_stays k met) j h.0, h.1)
-
-new_front : (met half done : ℕ → Bool) → Stays half done → (j : ℕ) → New met half j → New met done j
-new_front met half done stays j h = (h.0, stays j h.1)
-
-new_back : (met half done : ℕ → Bool) → Stays met half → (j : ℕ) → New half done j → New met done j
-new_back met half done stays j h = (old met half stays j h.0, h.1)
-
-seen_at : (b : List InstrSeq) (k : ℕ) (x : Seq) → slice_get (map seq_of b) k ≡ Some x → (y : InstrSeq) × (slice_get b k ≡ Some y) × (x ≡ seq_of y)
-seen_at [] k x e = absurd cc
-seen_at (y ∷ b) zero x e = (y, refl, let f = e in cc)
-seen_at (y ∷ b) (suc k) x e = seen_at b k x e
+-- ---- what lies as a tree
 
 type_seen : (b : List Seq) (k : ℕ) (x : Seq) → slice_get b k ≡ Some x → type_at b k ≡ Some x.ty
 type_seen b k x e = rw e refl
-
--- ---- what lies as a tree
 
 module _ (Good : Item → Type 0) (b : List InstrSeq) where
   abbrev pub AllFine : (ℕ → Type 0) → List (Instr × InstrLocId) → Type 0

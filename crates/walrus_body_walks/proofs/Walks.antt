@@ -18,7 +18,8 @@ use Rattle.walrus_body_walks.specs.Laws.{TriesAre, try_type}
 use Rattle.walrus_body_walks.proofs.Told.{Told, all_later, told_join}
 use Rattle.walrus_body_walks.proofs.Types.{some_is}
 use Rattle.walrus_body_walks.proofs.Instrs.{Fine}
-use Rattle.walrus_body_walks.proofs.Sequences.{AllFine, Inside, New}
+use Rattle.walrus_body_walks.proofs.Meeting.{New}
+use Rattle.walrus_body_walks.proofs.Sequences.{AllFine, Inside}
 
 has_either : (xs ys : List ℕ) (k : ℕ) → Has (xs ++ ys) k → Has xs k ⊎ Has ys k
 has_either [] ys k h = inr h

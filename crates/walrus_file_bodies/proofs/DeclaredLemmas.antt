@@ -13,10 +13,10 @@ use Rattle.walrus_items_into.specs.wasm_sections.TypeSection.{Measured, members,
 use Rattle.walrus_items_into.specs.wasm_sections.Entities.{Entity, FunctionOf, TableOf, MemoryOf, GlobalOf, TagOf, ImportEntry, add_entity, with_import, import_of, TableEntry, add_table}
 use Rattle.walrus_items_into.specs.wasm_sections.Laws.{ReadsSections}
 
-abbrev Plain : List Kind → Type 0
+abbrev pub Plain : List Kind → Type 0
 Plain = AllByRecursion (λ (k : Kind). k.entry ≡ false)
 
-abbrev AreDeclared : List TypeGroup → Type 0
+abbrev pub AreDeclared : List TypeGroup → Type 0
 AreDeclared = AllByRecursion (λ (g : TypeGroup). Plain g.kinds)
 
 one_declared : (o : Option Form) (final : Bool) (super : Option ℕ) (kinds : List Kind) → Plain kinds → Plain (cons_option (option_map (λ form. declared_kind form final super) o) kinds)
@@ -58,6 +58,11 @@ declared_kept features = record {
   segments = λ s bytes x _ r h. h;
 }
 
+pub read_types_are_declared : (features : WasmFeatures) (bytes : List ℕ) (s : State) → ReadsSections features bytes s → AreDeclared s.filled.groups
+read_types_are_declared features bytes s h =
+    let kept = file_kept features (λ m. AreDeclared m.groups) (declared_kept features) tt bytes h.0 h.1.0 h.1.1 in
+    subst (λ (s : State). AreDeclared s.filled.groups) h.2 kept
+
 -- ---- each by its index
 
 abbrev ArePlain : List Kind → Type 0
@@ -76,6 +81,4 @@ plain_at [] h n k e = absurd cc
 plain_at (g ∷ groups) h n k e = plain_in g.kinds (flat_map (λ (g : TypeGroup). g.kinds) groups) h.0 (plain_at groups h.1) n k e
 
 pub read_types_are_plain : (features : WasmFeatures) (bytes : List ℕ) (s : State) → ReadsSections features bytes s → (n : ℕ) (k : Kind) → slice_get (types_of s.filled) n ≡ Some k → k.entry ≡ false
-read_types_are_plain features bytes s h =
-    let kept = file_kept features (λ m. AreDeclared m.groups) (declared_kept features) tt bytes h.0 h.1.0 h.1.1 in
-    plain_at s.filled.groups (subst (λ (s : State). AreDeclared s.filled.groups) h.2 kept)
+read_types_are_plain features bytes s h = plain_at s.filled.groups (read_types_are_declared features bytes s h)

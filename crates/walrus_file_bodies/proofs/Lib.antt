@@ -1,4 +1,4 @@
-mod DeclaredLemmas
+pub mod DeclaredLemmas
 pub mod PairLemmas
 mod TagLemmas
 mod ReadyLemmas

@@ -32,7 +32,7 @@ use Rattle.walrus_handler_types.proofs.Ordering.{ids_there, told_there}
 
 -- ---- searches
 
-latest_push : (test : ℕ × Item → Bool) (first : ℕ) (slots : List (Option Item)) (item : Item) (found : Option ℕ) (id : ℕ) → first + length slots ≡ id
+pub latest_push : (test : ℕ × Item → Bool) (first : ℕ) (slots : List (Option Item)) (item : Item) (found : Option ℕ) (id : ℕ) → first + length slots ≡ id
     → latest_in test found (entries_from first (slots ++ Some item ∷ [])) ≡ (if test (id, item) then Some id else latest_in test found (entries_from first slots))
 latest_push test first [] item found id is = let e : first ≡ id = omega (arith, is) in ap (λ (n : ℕ). if test (n, item) then Some n else found) e
 latest_push test first (None ∷ slots) item found id is = latest_push test (first + 1) slots item found id (omega (arith, is))
@@ -59,7 +59,7 @@ none_either : (c : Bool) (o : Option ℕ) → o ≡ None → (if c then None els
 none_either true o e = refl
 none_either false o e = e
 
-equal_none : (kind : Kind) (t : Table) → latest_id (λ e. same_kind e.1.kind kind) t ≡ None → equal_type kind t ≡ None
+pub equal_none : (kind : Kind) (t : Table) → latest_id (λ e. same_kind e.1.kind kind) t ≡ None → equal_type kind t ≡ None
 equal_none kind t none =
     none_either (names_itself (next_id t) kind) (latest_id (merges kind) t)
     (latest_none (merges kind) (λ e. same_kind e.1.kind kind) (λ e h. and_first (same_kind e.1.kind kind) (not (names_itself e.0 e.1.kind)) h) (entries t) None None (λ e. e) none)

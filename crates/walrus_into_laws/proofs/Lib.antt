@@ -1,4 +1,3 @@
-pub mod DeclaredLemmas
 pub mod GroupLemmas
 pub mod ParsedLemmas
 pub mod FunctionLemmas

@@ -5,7 +5,7 @@ pub mod WholeLemmas
 mod NamingLemmas
 mod MeantLemmas
 mod TextLemmas
-mod NormalLemmas
+pub mod NormalLemmas
 pub mod RuleLemmas
 pub mod UseLemmas
 -- Passed on to crates above, which then list this one alone.

@@ -37,7 +37,8 @@ use Rattle.walrus_parsed_linked.specs.walrus_parsed_items.walrus_parse.walrus_fi
 use Rattle.walrus_parsed_groups.specs.Added.{Signature}
 use Rattle.walrus_parsed_groups.specs.Catches.{catches, opened_results, part_signature}
 use Rattle.walrus_parsed_groups.specs.Handlers.{signature_of}
-use Rattle.walrus_parsed_groups.proofs.FitLemmas.{RunsFit, run_none}
+use Rattle.walrus_parsed_linked.proofs.walrus_body_walks.Fitting.{RunsFit}
+use Rattle.walrus_parsed_groups.proofs.FitLemmas.{run_none}
 use Rattle.walrus_parsed_groups.proofs.ToldLemmas.{seen_at}
 
 -- ---- trees side by side

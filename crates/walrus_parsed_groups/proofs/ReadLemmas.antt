@@ -32,7 +32,7 @@ use Rattle.walrus_parsed_groups.specs.Groups.{ReadModulesHaveGroups, handlers_of
 use Rattle.walrus_parsed_groups.specs.Handlers.{signatures}
 use Rattle.walrus_parsed_groups.proofs.FileLemmas.{all_found, all_signatures, all_types, file_closed, same_groups}
 use Rattle.walrus_parsed_groups.proofs.FoundLemmas.{none_missing}
-use Rattle.walrus_parsed_groups.proofs.FitLemmas.{AreSpelled}
+use Rattle.walrus_parsed_linked.proofs.walrus_body_walks.walrus_body_trees.Bodies.{AreSpelled}
 use Rattle.walrus_parsed_groups.proofs.StepLemmas.{steps_stand}
 use Rattle.walrus_parsed_groups.proofs.TableLemmas.{Stands, stands_first}
 

@@ -35,7 +35,9 @@ use Rattle.walrus_parsed_linked.specs.walrus_parsed_items.walrus_parse.walrus_mo
 use Rattle.walrus_parsed_groups.specs.Added.{Signature}
 use Rattle.walrus_parsed_groups.specs.Groups.{handlers_in}
 use Rattle.walrus_parsed_groups.specs.Handlers.{HasTypes, signatures}
-use Rattle.walrus_parsed_groups.proofs.FitLemmas.{AreSpelled, body_fits, body_tree}
+use Rattle.walrus_parsed_linked.proofs.walrus_body_walks.walrus_body_trees.Bodies.{AreSpelled}
+use Rattle.walrus_parsed_linked.proofs.walrus_body_walks.Fitting.{spelled_fits}
+use Rattle.walrus_parsed_groups.proofs.FitLemmas.{body_tree}
 use Rattle.walrus_parsed_groups.proofs.GivenLemmas.{all_stay, stands_given}
 use Rattle.walrus_parsed_groups.proofs.TableLemmas.{Stands, stands_entered}
 use Rattle.walrus_parsed_groups.proofs.ToldLemmas.{IsSeen, all_join, each_seen}
@@ -71,7 +73,7 @@ module _ (back : OperatorComesBack) (spelled : AreSpelled) (stay : FoundTypesSta
       let r = g.aside a filed in
       let parts : Parts = ((r.place, r.runs), r.ops) in
       let found = (body a (length s.params) (place_at e.code_start (cursor_of file features b))).found b.chunk.bytes.now parts small r.read in
-      let fits = body_fits spelled a (length s.params) (place_at e.code_start (cursor_of file features b)) b.chunk.bytes.now parts same small found.0 in
+      let fits = spelled_fits spelled a (length s.params) (place_at e.code_start (cursor_of file features b)) b.chunk.bytes.now parts same small found.0 in
       let p : r.sight.params ≡ params_at s.mid = ap (λ (x : Sight). x.params) r.aside ∙ ap params_at g.env_is.types_are in
       let q : r.sight.results ≡ results_at s.mid = ap (λ (x : Sight). x.results) r.aside ∙ ap results_at g.env_is.types_are in
       let told : ℕ → Option Handler = told_by r.sight.tag_type g.own (tree_ids g.tree) in

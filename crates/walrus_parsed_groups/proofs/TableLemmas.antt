@@ -19,6 +19,7 @@ use Rattle.walrus_parsed_linked.specs.walrus_pairing.walrus_instr.declared.seq.I
 use Rattle.walrus_parsed_linked.specs.walrus_parsed_items.walrus_into_laws.walrus_meaning.Meaning.{group_kinds, has_kinds, own_groups, plain_kind}
 use Rattle.walrus_parsed_linked.specs.walrus_parsed_items.walrus_parse.walrus_module.walrus_types.Items.{Group, Item}
 use Rattle.walrus_parsed_linked.specs.walrus_parsed_items.walrus_parse.walrus_module.walrus_types.Table.{Adds, Merges, Table, entries, equal_type, found_type, latest_id, latest_in, merges, names_itself, next_id, type_at}
+use Rattle.walrus_parsed_linked.proofs.walrus_parsed_bodies.walrus_handler_types.Growing.{equal_none, latest_push}
 use Rattle.walrus_parsed_groups.specs.Added.{Signature, added, is_missing, kind_of, single}
 use Rattle.walrus_parsed_groups.proofs.OnceLemmas.{added_more, has}
 
@@ -120,43 +121,12 @@ module _ (kind : Kind) (id : ℕ) (t u : Table) (adds : Adds kind id t u) where
   -- it is found where it is looked for
   pub found_on : (ps rs : List ValType) → found_type ps rs u ≡ (if same_kind kind (function_kind ps rs) then Some id else found_type ps rs t)
   found_on ps rs =
-      ap (λ (l : List (Option Item)). latest_in test None (entries_from 0 l)) adds.types ∙ latest_push 0 t.types None (let g = adds.given in omega (arith, g))
+      ap (λ (l : List (Option Item)). latest_in test None (entries_from 0 l)) adds.types ∙ latest_push test 0 t.types item None id (let g = adds.given in omega (arith, g))
     where
       test : ℕ × Item → Bool
       test e = same_kind e.1.kind (function_kind ps rs)
 
-      latest_push : (first : ℕ) (slots : List (Option Item)) (found : Option ℕ) → first + length slots ≡ id
-          → latest_in test found (entries_from first (slots ++ Some item ∷ [])) ≡ (if same_kind kind (function_kind ps rs) then Some id else latest_in test found (entries_from first slots))
-      latest_push first [] found is = let e : first ≡ id = omega (arith, is) in ap (λ (n : ℕ). if same_kind kind (function_kind ps rs) then Some n else found) e
-      latest_push first (None ∷ slots) found is = latest_push (first + 1) slots found (omega (arith, is))
-      latest_push first (Some x ∷ slots) found is = latest_push (first + 1) slots (if test (first, x) then Some first else found) (omega (arith, is))
-
 -- ---- where nothing is found, a type of these lists is added
-
-step_none : (c d : Bool) (id : ℕ) (f g : Option ℕ) → (c ≡ true → d ≡ true) → (g ≡ None → f ≡ None) → (if d then Some id else g) ≡ None → (if c then Some id else f) ≡ None
-step_none true true id f g up h e = absurd cc
-step_none true false id f g up h e = absurd (let a = up refl in cc)
-step_none false true id f g up h e = absurd cc
-step_none false false id f g up h e = h e
-
-latest_none : (test wide : ℕ × Item → Bool) → ((e : ℕ × Item) → test e ≡ true → wide e ≡ true) → (es : List (ℕ × Item)) (f g : Option ℕ) → (g ≡ None → f ≡ None)
-    → latest_in wide g es ≡ None → latest_in test f es ≡ None
-latest_none test wide up [] f g h e = h e
-latest_none test wide up (x ∷ es) f g h e =
-    latest_none test wide up es (if test x then Some x.0 else f) (if wide x then Some x.0 else g) (step_none (test x) (wide x) x.0 f g (up x) h) e
-
-and_first : (a b : Bool) → (a && b) ≡ true → a ≡ true
-and_first true b h = refl
-and_first false b h = h
-
-none_either : (c : Bool) (o : Option ℕ) → o ≡ None → (if c then None else o) ≡ None
-none_either true o e = refl
-none_either false o e = e
-
-equal_none : (kind : Kind) (t : Table) → latest_id (λ e. same_kind e.1.kind kind) t ≡ None → equal_type kind t ≡ None
-equal_none kind t none =
-    none_either (names_itself (next_id t) kind) (latest_id (merges kind) t)
-    (latest_none (merges kind) (λ e. same_kind e.1.kind kind) (λ e h. and_first (same_kind e.1.kind kind) (not (names_itself e.0 e.1.kind)) h) (entries t) None None (λ e. e) none)
 
 none_of : (o : Option InstrSeqType) (a : Option ℕ) → option_or o (option_map MultiValue a) ≡ None → (o ≡ None) × (a ≡ None)
 none_of (Some s) a h = absurd cc

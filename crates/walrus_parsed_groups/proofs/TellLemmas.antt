@@ -21,7 +21,7 @@ use Rattle.walrus_parsed_linked.specs.walrus_pairing.Laws.{OperatorComesBack}
 use Rattle.walrus_parsed_linked.specs.walrus_parsed_items.walrus_parse.Parsed.{read_features}
 use Rattle.walrus_parsed_linked.specs.walrus_parsed_items.walrus_parse.walrus_module.walrus_types.Table.{Table}
 use Rattle.walrus_parsed_groups.specs.Texts.{ReadModulesTellTexts}
-use Rattle.walrus_parsed_groups.proofs.FitLemmas.{AreSpelled}
+use Rattle.walrus_parsed_linked.proofs.walrus_body_walks.walrus_body_trees.Bodies.{AreSpelled}
 use Rattle.walrus_parsed_groups.proofs.TextLemmas.{steps_tell, texts_named}
 
 pub tell_texts : {B : Type 0} → OperatorComesBack → AreSpelled → TreesTell → FilledFunctionsStand B → FilledModulesAreFiled B → EntryTypesGrow → FoundTypesStay → TablesGrowOn → ReadModulesTellTexts B

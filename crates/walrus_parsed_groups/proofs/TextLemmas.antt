@@ -45,7 +45,9 @@ use Rattle.walrus_parsed_groups.specs.Handlers.{signature_of, signatures}
 use Rattle.walrus_parsed_groups.specs.Texts.{TellTexts, TellsText}
 use Rattle.walrus_parsed_groups.proofs.CatchLemmas.{body_catches, seen_signatures}
 use Rattle.walrus_parsed_groups.proofs.FileLemmas.{all_signatures, same_caught, same_found, same_results}
-use Rattle.walrus_parsed_groups.proofs.FitLemmas.{AreSpelled, body_fits, body_tree}
+use Rattle.walrus_parsed_linked.proofs.walrus_body_walks.walrus_body_trees.Bodies.{AreSpelled}
+use Rattle.walrus_parsed_linked.proofs.walrus_body_walks.Fitting.{spelled_fits}
+use Rattle.walrus_parsed_groups.proofs.FitLemmas.{body_tree}
 use Rattle.walrus_parsed_groups.proofs.GivenLemmas.{signatures_stay}
 use Rattle.walrus_parsed_groups.proofs.StepLemmas.{seen_types}
 use Rattle.walrus_parsed_groups.proofs.ToldLemmas.{each_seen}
@@ -112,7 +114,7 @@ module _ (back : OperatorComesBack) (spelled : AreSpelled) (tell : TreesTell) (s
       let parts : Parts = ((r.place, r.runs), r.ops) in
       let read = subst (λ (n : ℕ). (body a (length s.params) n).parse b.chunk.bytes.now ≡ Ok parts) (placed_there file features b e.code_start g.env_is.begins) r.read in
       let found = (body a (length s.params) b.chunk.place).found b.chunk.bytes.now parts small read in
-      let fits = body_fits spelled a (length s.params) b.chunk.place b.chunk.bytes.now parts same small found.0 in
+      let fits = spelled_fits spelled a (length s.params) b.chunk.place b.chunk.bytes.now parts same small found.0 in
       let first : Grows s.mid later = on s.mid new.types later (tree_types_grow (tag_type_at e.tags.now) g.own g.tree s.mid (contents s.body.builder.builder) new.types g.given) grows in
       let wide : Widens r.sight (sight_in (env_of file later) b.number new.ids) =
       subst (λ (x : Sight). Widens x (sight_in (env_of file later) b.number new.ids)) (sym r.aside) (widens file s.mid later e g.env_is first b.number new.ids r.sight.handler_type) in

@@ -27,7 +27,8 @@ use Rattle.walrus_parsed_linked.specs.walrus_parsed_items.walrus_parse.walrus_fi
 use Rattle.walrus_parsed_linked.specs.walrus_parsed_items.walrus_parse.walrus_file_bodies.walrus_items_into.walrus_module_env.walrus_handler_types.walrus_handler_laws.declared.handler.Handler.{Handler}
 use Rattle.walrus_parsed_linked.specs.walrus_parsed_items.walrus_parse.walrus_file_bodies.walrus_items_into.walrus_module_env.walrus_handler_types.walrus_handler_laws.Handlers.{Slot, all_slots, handler_in, part_slots, seq_slots, slots, slots_in, told_by, tree_ids, turn_handler}
 use Rattle.walrus_parsed_linked.specs.walrus_parsed_items.walrus_parse.walrus_file_bodies.walrus_items_into.walrus_module_env.walrus_handler_types.walrus_handler_laws.Retyping.{handler_params}
-use Rattle.walrus_parsed_groups.proofs.FitLemmas.{RunsFit, run_none}
+use Rattle.walrus_parsed_linked.proofs.walrus_body_walks.Fitting.{RunsFit}
+use Rattle.walrus_parsed_groups.proofs.FitLemmas.{run_none}
 
 -- ---- lists
 

@@ -21,6 +21,7 @@ use Rattle.walrus_marks.specs.Chains.{Chain, root, refers}
 use Rattle.walrus_parsed_served.specs.walrus_parsed_linked.walrus_pairing.Laws.{OperatorComesBack}
 use Rattle.walrus_parsed_inexact.proofs.InstrLemmas.{IsFine, IsLeaf, Knows, handler_inexact, opened_inexact, run_leaf}
 use Rattle.walrus_parsed_inexact.proofs.TreeLemmas.{TreeIs}
+use Rattle.walrus_parsed_served.proofs.walrus_parsed_linked.walrus_body_walks.Meeting.{New, Stays, either_bool, new_back, new_front, new_one, not_both, seen_at, with_cases, with_here, with_stays}
 use Rattle.walrus_parsed_inexact.proofs.ValueLemmas.{InexactType, any_false, or_false, type_false}
 use Rattle.walrus_parsed_served.proofs.walrus_passes_laws.BodyLemmas.{of_held}
 use Rattle.walrus_parsed_served.specs.walrus_passes_laws.walrus_references.References.{Holds, IsEntry, held, held_in}
@@ -36,53 +37,7 @@ use Rattle.walrus_parsed_served.specs.walrus_parsed_linked.walrus_parsed_items.w
 use Rattle.walrus_parsed_served.specs.walrus_parsed_linked.walrus_parsed_items.walrus_parse.walrus_file_bodies.walrus_items_into.walrus_module_env.walrus_handler_types.walrus_body_steps.wasm_normal_form.Trees.{Tree as OpTree, Close, Arm, Skip, Run, Nest}
 use Rattle.walrus_parsed_served.specs.walrus_parsed_linked.walrus_parsed_items.walrus_parse.walrus_file_bodies.walrus_items_into.walrus_module_env.walrus_body_parser.wasm_operators.Operators.{Seen}
 
--- ---- sequences that are met
-
--- what was met stays so
-abbrev Stays : (ℕ → Bool) → (ℕ → Bool) → Type 0
-Stays met done = (j : ℕ) → met j ≡ true → done j ≡ true
-
--- it was met in between
-abbrev New : (ℕ → Bool) → (ℕ → Bool) → ℕ → Type 0
-New met done j = (met j ≡ false) × (done j ≡ true)
-
-not_both : (c : Bool) → c ≡ true → c ≡ false → ⊥
-not_both c h g = cc
-
-either_bool : (c : Bool) → (c ≡ true) ⊎ (c ≡ false)
-either_bool true = inl refl
-either_bool false = inr refl
-
-old_one : (met done : ℕ → Bool) → Stays met done → (j : ℕ) → done j ≡ false → met j ≡ false
-old_one met done stays j h = elim (either_bool (met j)) as (λ _. met j ≡ false) [ inl e ↦ absurd (not_both (done j) (stays j e) h) | inr e ↦ e ]
-
-with_here : (k : ℕ) (met : ℕ → Bool) → with k met k ≡ true
-with_here k met = ap (λ (c : Bool). if c then true else met k) (eq-eqb k k refl)
-
-with_stays : (k : ℕ) (met : ℕ → Bool) → Stays met (with k met)
-with_stays k met j h = go (j == k)
-  where
-    go : (c : Bool) → (if c then true else met j) ≡ true
-    go true = refl
-    go false = h
-
--- met with one more: it is that one, or was met
-with_cases : (k : ℕ) (met : ℕ → Bool) (j : ℕ) → (j ≡ k) ⊎ (with k met j ≡ met j)
-with_cases k met j = elim (either_bool (j == k)) as (λ _. (j ≡ k) ⊎ (with k met j ≡ met j)) [ inl e ↦ inl (eqb-true j k e) | inr e ↦ inr (ap (λ (c : Bool). if c then true else met j) e) ]
-
-new_one : (k : ℕ) (met done : ℕ → Bool) (j : ℕ) → New (with k met) done j → New met done j
-new_one k met done j h = (old_one met (with k met) (with_stays k met) j h.0, h.1)
-
-new_front : (met half done : ℕ → Bool) → Stays half done → (j : ℕ) → New met half j → New met done j
-new_front met half done stays j h = (h.0, stays j h.1)
-
-new_back : (met half done : ℕ → Bool) → Stays met half → (j : ℕ) → New half done j → New met done j
-new_back met half done stays j h = (old_one met half stays j h.0, h.1)
-
-seen_at : (b : List InstrSeq) (k : ℕ) (x : Seq) → slice_get (map seq_of b) k ≡ Some x → (y : InstrSeq) × (slice_get b k ≡ Some y) × (x ≡ seq_of y)
-seen_at [] k x e = absurd cc
-seen_at (y ∷ b) zero x e = (y, refl, let f = e in cc)
-seen_at (y ∷ b) (suc k) x e = seen_at b k x e
+-- ---- what all of a list has
 
 pub all_up : {A : Type 0} (P Q : A → Type 0) → ((x : A) → P x → Q x) → (xs : List A) → AllByRecursion P xs → AllByRecursion Q xs
 all_up P Q up [] h = tt

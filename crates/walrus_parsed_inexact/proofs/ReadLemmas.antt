@@ -41,7 +41,8 @@ use Rattle.walrus_parsed_served.specs.walrus_parsed_groups.Files.{bodies_handle}
 use Rattle.walrus_parsed_served.specs.walrus_parsed_groups.Groups.{handlers_in}
 use Rattle.walrus_parsed_served.specs.walrus_parsed_groups.Handlers.{signatures}
 use Rattle.walrus_parsed_inexact.proofs.ItemLemmas.{data_false, element_false, global_false, none_in, table_false}
-use Rattle.walrus_parsed_inexact.proofs.StepLemmas.{AreSpelled, InexactLocals, step_body, steps_locals}
+use Rattle.walrus_parsed_served.proofs.walrus_parsed_linked.walrus_body_walks.walrus_body_trees.Bodies.{AreSpelled}
+use Rattle.walrus_parsed_inexact.proofs.StepLemmas.{InexactLocals, step_body, steps_locals}
 use Rattle.walrus_parsed_inexact.proofs.TextLemmas.{InexactSignatures, codes_so, handled_so, sent_so}
 use Rattle.walrus_parsed_inexact.proofs.TypeLemmas.{IsPlain, all_fit, file_plain, same_caught, same_results, steps_plain, type_none}
 use Rattle.walrus_parsed_inexact.proofs.ValueLemmas.{some_is, value_false}

@@ -1,6 +1,5 @@
 -- Lemmas: bodies that were read hold no exact heap type, nor do the locals that they add.
 use Rattle.std.proofs.Common.{subst, sym}
-use Rattle.std.proofs.lemmas.List.Elements.{All-cons, All-head, All-nil, All-tail}
 use Rattle.std.specs.List.{AllByRecursion}
 use Rattle.std.specs.Option.{option_map, option_or}
 use Rattle.std.specs.Prelude.{if◌then◌else◌, Bool, List, None, Option, Some, [], false, fold, length, map, refl, suc, true, ℕ, ◌++◌, ◌+◌, ◌<◌, ◌∷◌, ◌≡◌}
@@ -34,6 +33,7 @@ use Rattle.walrus_parsed_served.specs.walrus_parsed_linked.walrus_parsed_items.w
 use Rattle.walrus_parsed_served.specs.walrus_parsed_linked.walrus_parsed_items.walrus_parse.walrus_file_bodies.walrus_items_into.walrus_module_env.walrus_collections.walrus_module_items.Functions.{type_of}
 use Rattle.walrus_parsed_served.specs.walrus_parsed_linked.walrus_pairing.Laws.{OperatorComesBack}
 use Rattle.walrus_parsed_served.proofs.walrus_parsed_linked.walrus_parsed_bodies.PickLemmas.{stands_as_written}
+use Rattle.walrus_parsed_served.proofs.walrus_parsed_linked.walrus_body_walks.walrus_body_trees.Bodies.{AreSpelled, all_front, one_fits}
 use Rattle.walrus_parsed_inexact.proofs.InstrLemmas.{IsFine, Knows}
 use Rattle.walrus_parsed_inexact.proofs.LaidLemmas.{body_inexact}
 use Rattle.walrus_parsed_inexact.proofs.TextLemmas.{joined}
@@ -46,23 +46,15 @@ use Rattle.walrus_marks.specs.walrus_instr.walrus_types.Table.{found_type}
 use Rattle.walrus_parsed_served.specs.walrus_parsed_linked.walrus_parsed_items.walrus_parse.walrus_file_bodies.walrus_items_into.walrus_module_env.walrus_handler_types.walrus_body_steps.wasm_body_grammar.Bodies.{Parts, Point, body, body_of, declared, is_closed, next_point, next_total, opened, operator, operator_in, placed}
 use Rattle.walrus_parsed_served.specs.walrus_parsed_linked.walrus_parsed_items.walrus_parse.walrus_file_bodies.walrus_items_into.walrus_module_env.walrus_handler_types.walrus_body_steps.wasm_body_grammar.Rules.{Around}
 use Rattle.walrus_parsed_served.specs.walrus_parsed_linked.walrus_parsed_items.walrus_parse.walrus_file_bodies.walrus_items_into.walrus_module_env.walrus_body_parser.wasm_operators.wasm_features.declared.WasmFeatures.{WasmFeatures}
-use Rattle.walrus_parsed_served.specs.walrus_parsed_linked.walrus_parsed_items.walrus_parse.walrus_file_bodies.walrus_items_into.wasm_sections.wasm_grammar.wasm_formats.Bytes.{either_type}
 use Rattle.walrus_parsed_served.specs.walrus_parsed_linked.walrus_parsed_items.walrus_parse.walrus_file_bodies.walrus_items_into.wasm_sections.wasm_grammar.wasm_formats.Formats.{Small}
 use Rattle.walrus_parsed_served.specs.walrus_parsed_linked.walrus_parsed_items.walrus_parse.walrus_file_bodies.walrus_items_into.wasm_sections.wasm_grammar.wasm_formats.Lists.{SpellsEntries}
 use Rattle.walrus_parsed_served.specs.walrus_parsed_linked.walrus_parsed_items.walrus_parse.walrus_file_bodies.walrus_items_into.wasm_sections.wasm_grammar.Modules as grammar
 use Rattle.wasm_inexact_modules.specs.Inexact.{InexactBody, InexactOperator, InexactValue, InexactValues, ReadBodiesAreInexact}
 use Rattle.walrus_parsed_served.specs.walrus_parsed_linked.walrus_parsed_items.walrus_parse.walrus_file_bodies.walrus_items_into.walrus_module_env.walrus_handler_types.walrus_body_steps.wasm_normal_form.Normal.{normal}
 use Rattle.walrus_parsed_served.specs.walrus_parsed_linked.walrus_parsed_items.walrus_parse.walrus_file_bodies.walrus_items_into.walrus_module_env.walrus_handler_types.walrus_body_steps.wasm_normal_form.Trees.{tree_of}
-use Rattle.wasm_operators.specs.Bytes.{operator_bytes}
-use Rattle.wasm_operators.specs.RangeLaws.{SpelledIfFits}
-use Rattle.wasm_operators.specs.Ranges.{OperatorFits}
 use Rattle.walrus_parsed_served.specs.walrus_parsed_linked.walrus_parsed_items.walrus_parse.walrus_file_bodies.walrus_items_into.walrus_module_env.walrus_body_parser.wasm_operators.Operators.{Seen}
-use Rattle.walrus_parsed_served.specs.walrus_parsed_linked.walrus_parsed_items.walrus_parse.walrus_file_bodies.walrus_items_into.walrus_module_env.walrus_body_parser.wasm_operators.Spellings.{SpellsEither, SpellsOperator}
 use Rattle.walrus_parsed_served.specs.walrus_parsed_linked.walrus_parsed_items.walrus_parse.walrus_file_bodies.walrus_items_into.walrus_module_env.wasm_run_names.Picks.{block_pick}
 use Rattle.walrus_parsed_served.specs.walrus_parsed_linked.walrus_parsed_items.walrus_parse.walrus_file_bodies.walrus_items_into.wasm_sections.Within.{ChunksFit}
-
-abbrev pub AreSpelled : Type 0
-AreSpelled = (features : WasmFeatures) → SpelledIfFits (SpellsOperator features) operator_bytes (OperatorFits features)
 
 -- ---- locals
 
@@ -79,32 +71,19 @@ adds_inexact function tys ls ms i j h new before =
 
 -- ---- operators fit
 
-all_parts : (xs ys : List ℕ) → Small (xs ++ ys) → Small xs × Small ys
-all_parts [] ys h = (All-nil (λ b. b < 256), h)
-all_parts (x ∷ xs) ys h =
-    let rest = all_parts xs ys (All-tail (λ b. b < 256) x (xs ++ ys) h) in
-    (All-cons (λ b. b < 256) x xs (All-head (λ b. b < 256) x (xs ++ ys) h) rest.0, rest.1)
-
 module _ (spelled : AreSpelled) (a : Around) where
-  one_fits : (locals : ℕ) (p : Point) (bytes : List ℕ) (x : ℕ × Seen) → Small bytes → (operator_in a locals p).spells bytes x → OperatorFits a.features x.1
-  one_fits locals p bytes x small s = go (is_closed p.frames) s.0
-    where
-      go : (c : Bool) → either_type c ⊥ ((operator a.features).spells bytes x.1) → OperatorFits a.features x.1
-      go true h = absurd h
-      go false h = (spelled a.features).only bytes x.1 small (subst (λ (o : Option Seen). SpellsEither a.features bytes o) h.1 h.2)
-
   -- each is inexact, and fits its code
   ops_fine : (locals place : ℕ) (ops : List (ℕ × Seen)) (p : Point) (bytes : List ℕ) → Small bytes → SpellsEntries next_point (operator_in a locals) p bytes ops
       → AllByRecursion (λ (o : grammar.Placed). InexactOperator o.op) (placed place ops) → AllByRecursion (λ (o : grammar.Placed). IsFine a.features o.op) (placed place ops)
   ops_fine locals place [] p bytes small s h = tt
   ops_fine locals place (x ∷ ops) p bytes small s h =
-      let both = all_parts s.0 s.1 (subst Small s.2 small) in
-      ((h.0, one_fits locals p s.0 x both.0 s.3), ops_fine locals x.0 ops (next_point p x) s.1 both.1 s.4 h.1)
+      let both = all_front s.0 s.1 (subst Small s.2 small) in
+      ((h.0, one_fits spelled a locals p s.0 x both.0 s.3), ops_fine locals x.0 ops (next_point p x) s.1 both.1 s.4 h.1)
 
   body_fine : (params place : ℕ) (bytes : List ℕ) (parts : Parts) → Small bytes → (body a params place).spells bytes parts → InexactBody (body_of parts)
       → AllByRecursion (λ (o : grammar.Placed). IsFine a.features o.op) (body_of parts).operators
   body_fine params place bytes parts small spells h =
-      let both = all_parts spells.0 spells.1 (subst Small spells.2 small) in
+      let both = all_front spells.0 spells.1 (subst Small spells.2 small) in
       ops_fine (fold next_total params parts.0.1) parts.0.0 parts.1 (opened parts.0.0) spells.1 both.1 spells.4 h.1
 
 -- ---- block types that a table finds

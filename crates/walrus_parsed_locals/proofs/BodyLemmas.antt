@@ -24,7 +24,8 @@ use Rattle.walrus_parsed_bodies.specs.Texts.{naming, text_of}
 use Rattle.walrus_parsed_locals.specs.Locals.{kept_numbers}
 use Rattle.walrus_parsed_locals.proofs.IdLemmas.{get_id, has_no_other, has_own, ids_by_number, ids_joined, types_of}
 use Rattle.walrus_parsed_locals.proofs.KeyLemmas.{has, moved, types_moved}
-use Rattle.walrus_parsed_locals.proofs.NameLemmas.{AllOf, Below, locals_again, map_moved}
+use Rattle.walrus_parsed_bodies.proofs.walrus_parsed_items.ListLemmas.{AllOf}
+use Rattle.walrus_parsed_locals.proofs.NameLemmas.{Below, locals_again, map_moved}
 use Rattle.walrus_parsed_locals.proofs.PlaceLemmas.{at_new_number, got, has_below, ids_are, used_below, used_has}
 use Rattle.walrus_parsed_locals.proofs.SplitLemmas.{used_are}
 

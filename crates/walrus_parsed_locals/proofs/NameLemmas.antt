@@ -8,6 +8,8 @@ use Rattle.walrus_parsed_bodies.specs.walrus_parsed_items.walrus_body_trees.walr
 use Rattle.walrus_parsed_bodies.specs.walrus_parsed_items.walrus_into_laws.walrus_meaning.walrus_local_function.walrus_body_locals.wasm_normal_form.Bodies.{local_in, locals_named}
 use Rattle.walrus_parsed_bodies.specs.walrus_parsed_items.walrus_into_laws.walrus_meaning.walrus_local_function.walrus_body_locals.wasm_normal_form.Roles.{Placed, placed}
 use Rattle.walrus_parsed_bodies.specs.walrus_parsed_items.walrus_body_trees.walrus_body_nesting.wasm_body_grammar.wasm_operators.Names.{Name, Renaming, item_names, renamed_item, renamed_operator}
+use Rattle.walrus_parsed_bodies.proofs.NormalLemmas.{all_split}
+use Rattle.walrus_parsed_bodies.proofs.walrus_parsed_items.ListLemmas.{AllOf, all_join}
 use Rattle.walrus_parsed_locals.proofs.KeyLemmas.{eqb_moved, has}
 
 -- ---- operators that are renamed
@@ -51,18 +53,6 @@ locals_again r (o ∷ ops) =
 
 -- ---- names that are below a bound
 
-abbrev pub AllOf : {A : Type 0} → (A → Type 0) → List A → Type 0
-AllOf P [] = Unit {0}
-AllOf P (x ∷ xs) = P x × AllOf P xs
-
-pub join : {A : Type 0} (P : A → Type 0) (xs ys : List A) → AllOf P xs → AllOf P ys → AllOf P (xs ++ ys)
-join P [] ys h k = k
-join P (x ∷ xs) ys h k = (h.0, join P xs ys h.1 k)
-
-split : {A : Type 0} (P : A → Type 0) (xs ys : List A) → AllOf P (xs ++ ys) → AllOf P xs × AllOf P ys
-split P [] ys h = (tt, h)
-split P (x ∷ xs) ys h = let later = split P xs ys h.1 in ((h.0, later.0), later.1)
-
 -- a local is below the bound; names of other spaces may be any
 abbrev pub LocalBelow : ℕ → Space → ℕ → Type 0
 LocalBelow total Locals n = n < total
@@ -101,8 +91,8 @@ local_below total (ManyClauses cs) h = tt
 pub items_below : (total : ℕ) (xs : List Item) → AllOf (NameBelow total) (flat_map item_names xs) → AllOf (Below total) (flat_map local_in xs)
 items_below total [] h = tt
 items_below total (x ∷ xs) h =
-    let both = split (NameBelow total) (item_names x) (flat_map item_names xs) h in
-    join (Below total) (local_in x) (flat_map local_in xs) (local_below total x both.0) (items_below total xs both.1)
+    let both = all_split (NameBelow total) (item_names x) (flat_map item_names xs) h in
+    all_join (Below total) (local_in x) (flat_map local_in xs) (local_below total x both.0) (items_below total xs both.1)
 
 -- an operator's locals are below the bound
 abbrev pub LocalsBelow : ℕ → Placed → Type 0
@@ -110,7 +100,7 @@ LocalsBelow total o = AllOf (Below total) (flat_map local_in o.op.items)
 
 pub locals_below : (total : ℕ) (ops : List Placed) → AllOf (LocalsBelow total) ops → AllOf (Below total) (locals_named ops)
 locals_below total [] h = tt
-locals_below total (o ∷ ops) h = join (Below total) (flat_map local_in o.op.items) (locals_named ops) h.0 (locals_below total ops h.1)
+locals_below total (o ∷ ops) h = all_join (Below total) (flat_map local_in o.op.items) (locals_named ops) h.0 (locals_below total ops h.1)
 
 -- ---- numbers that are all moved
 

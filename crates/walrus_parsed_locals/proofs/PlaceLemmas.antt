@@ -11,7 +11,8 @@ use Rattle.walrus_parsed_bodies.specs.walrus_parsed_items.walrus_body_trees.walr
 use Rattle.walrus_parsed_bodies.specs.walrus_parsed_items.walrus_into_laws.walrus_meaning.walrus_local_function.walrus_body_locals.wasm_normal_form.Bodies.{new_number}
 use Rattle.walrus_parsed_bodies.specs.walrus_parsed_items.walrus_into_laws.walrus_meaning.walrus_local_function.walrus_body_locals.wasm_normal_form.Locals.{Key, in_order, insert_key, is_less, key_cmp, numbered, position}
 use Rattle.walrus_parsed_locals.proofs.KeyLemmas.{at_position, has, has_order, has_passing, moved, numbers, passing}
-use Rattle.walrus_parsed_locals.proofs.NameLemmas.{AllOf, Below}
+use Rattle.walrus_parsed_bodies.proofs.walrus_parsed_items.ListLemmas.{AllOf}
+use Rattle.walrus_parsed_locals.proofs.NameLemmas.{Below}
 
 -- ---- numbers of used locals are below the bound
 

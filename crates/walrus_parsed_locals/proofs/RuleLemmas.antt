@@ -16,7 +16,8 @@ use Rattle.walrus_parsed_bodies.specs.walrus_parsed_items.walrus_into_laws.walru
 use Rattle.walrus_parsed_bodies.specs.walrus_parsed_items.walrus_body_trees.walrus_body_nesting.wasm_body_grammar.wasm_operators.Names.{Name, operator_names}
 use Rattle.walrus_parsed_bodies.specs.walrus_parsed_items.walrus_body_trees.walrus_body_nesting.wasm_body_grammar.wasm_operators.Operators.{flow_of}
 use Rattle.walrus_parsed_bodies.specs.walrus_parsed_items.wasm_import_links.wasm_ruled_modules.Rules.{AreOperators, IsBody}
-use Rattle.walrus_parsed_locals.proofs.NameLemmas.{AllOf, Below, LocalBelow, LocalsBelow, NameBelow, items_below, locals_below}
+use Rattle.walrus_parsed_bodies.proofs.walrus_parsed_items.ListLemmas.{AllOf}
+use Rattle.walrus_parsed_locals.proofs.NameLemmas.{Below, LocalBelow, LocalsBelow, NameBelow, items_below, locals_below}
 use Rattle.walrus_parsed_locals.proofs.NormalLemmas.{normal_ops_in}
 
 in_room : (a : Around) (locals labels : ℕ) (space : Space) (n : ℕ) → nat_lt n (room a locals labels space) ≡ true → LocalBelow locals space n

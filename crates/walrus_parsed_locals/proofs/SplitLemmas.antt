@@ -8,7 +8,8 @@ use Rattle.std.proofs.lemmas.List.Elements.{filter-append}
 use Rattle.walrus_parsed_bodies.specs.walrus_parsed_items.walrus_body_trees.walrus_body_nesting.wasm_body_grammar.wasm_grammar.walrus_forms.declared.value.ValType.{ValType}
 use Rattle.walrus_parsed_bodies.specs.walrus_parsed_items.walrus_into_laws.walrus_meaning.walrus_local_function.walrus_body_locals.wasm_normal_form.Locals.{Key, in_order, numbered}
 use Rattle.walrus_parsed_locals.proofs.KeyLemmas.{has, moved, none_pass, numbered_append, order_moved, pass_moved, passing}
-use Rattle.walrus_parsed_locals.proofs.NameLemmas.{AllOf, Below, has_moved, none_before, none_behind}
+use Rattle.walrus_parsed_bodies.proofs.walrus_parsed_items.ListLemmas.{AllOf}
+use Rattle.walrus_parsed_locals.proofs.NameLemmas.{Below, has_moved, none_before, none_behind}
 
 -- behind these locals stand the parameters of a function, and those that it declares, and then others; names of its own are moved so
 module _ (before params own later : List ValType) (names args : List ℕ) (below : AllOf (Below (length params + length own)) names)
