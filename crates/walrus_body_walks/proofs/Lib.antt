@@ -9,3 +9,4 @@ mod Slots
 pub mod Answers
 -- Passed on to crates above, which then list this one alone.
 pub use Rattle.walrus_body_trees.proofs as walrus_body_trees
+pub use Rattle.walrus_handler_laws.proofs as walrus_handler_laws

@@ -1,2 +1,2 @@
 pub mod Counting
-mod Standing
+pub mod Standing

@@ -34,7 +34,7 @@ use Rattle.walrus_handler_laws.specs.Retyping.{AreTyped, HandlersStand, IsTyped,
 -- ---- what is held by what
 
 module _ (js : List ℕ) (told : ℕ → Option Handler) where
-  told_front : (xs ys : List Slot) → AreTold js told (xs ++ ys) → AreTold js told xs × AreTold js told ys
+  pub told_front : (xs ys : List Slot) → AreTold js told (xs ++ ys) → AreTold js told xs × AreTold js told ys
   told_front [] ys h = (tt, h)
   told_front (x ∷ xs) ys h = let r = told_front xs ys h.2 in ((h.0, h.1, r.0), r.1)
 
@@ -111,7 +111,7 @@ module _ (s v : Sight) (wide : Widens s v) where
   function_kept None ty h = h
   function_kept (Some id) ty h = block_kept (s.params id) (s.results id) (u.params id) (u.results id) ty (wide.params id) (wide.results id) h
 
-  written_kept : (w : BlockType) (ty : InstrSeqType) → written_block s w ≡ Some ty → written_block u w ≡ Some ty
+  pub written_kept : (w : BlockType) (ty : InstrSeqType) → written_block s w ≡ Some ty → written_block u w ≡ Some ty
   written_kept blocks.Empty ty h = h
   written_kept (blocks.Value x) ty h = h
   written_kept (blocks.Type n) ty h = function_kept (look s Types n) ty h
@@ -127,7 +127,7 @@ module _ (s v : Sight) (wide : Widens s v) where
   handler_kept (Some a) None qs ts own new p r h typed = absurd cc
   handler_kept (Some a) (Some b) qs ts own new p r h typed = rw (p a refl) (rw (r b refl) (typed a b refl refl))
 
-  results_kept : (block : InstrSeqType) (l : List ValType) → results_of s block ≡ Some l → results_of u block ≡ Some l
+  pub results_kept : (block : InstrSeqType) (l : List ValType) → results_of s block ≡ Some l → results_of u block ≡ Some l
   results_kept (Simple ty) l h = h
   results_kept (MultiValue id) l h = wide.results id l h
 

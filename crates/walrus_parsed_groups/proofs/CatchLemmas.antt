@@ -2,42 +2,35 @@
 use Rattle.std.proofs.Common.{◌≡◌, ◌∙◌, ℕ, Bool, List, [], ◌∷◌, ◌++◌, map, Option, Some, None, refl, sym, ap, subst}
 use Rattle.std.specs.Prelude.{slice_get}
 use Rattle.std.specs.List.{flat_map}
-use Rattle.std.specs.Option.{option_and_then, option_map}
+use Rattle.std.specs.Option.{option_and_then}
 use Rattle.std.proofs.lemmas.List.{append_assoc, append-nil}
 use Rattle.std.proofs.lemmas.List.Concat.{flat_map-append}
 use Rattle.walrus_parsed_linked.specs.walrus_pairing.wasm_operators.wasm_features.declared.WasmFeatures.{WasmFeatures}
-use Rattle.walrus_parsed_linked.specs.walrus_pairing.wasm_operators.declared.block_type.BlockType.{BlockType}
-use Rattle.walrus_parsed_linked.specs.walrus_pairing.wasm_operators.declared.block_type.BlockType.TheVariants as blocks
-use Rattle.walrus_parsed_linked.specs.walrus_pairing.wasm_operators.Items.{Types}
 use Rattle.walrus_parsed_linked.specs.walrus_parsed_items.walrus_parse.walrus_file_bodies.walrus_items_into.walrus_module_env.walrus_handler_types.walrus_handler_laws.walrus_body_steps.wasm_normal_form.Trees.{Tree as OpTree, Close, Arm, Skip, Run, Nest}
 use Rattle.wasm_operators.specs.Operators.{Seen, flow_of}
 use Rattle.wasm_operators.specs.declared.entry.Flow.{Flow}
 use Rattle.wasm_operators.specs.declared.entry.Flow.TheVariants as flows
 use Rattle.walrus_forms.specs.declared.value.ValType.{ValType}
 use Rattle.walrus_parsed_linked.specs.walrus_pairing.walrus_instr.declared.instr.Instr.{Instr}
-use Rattle.walrus_parsed_linked.specs.walrus_pairing.walrus_instr.declared.instr.LegacyCatch.{LegacyCatch}
-use Rattle.walrus_parsed_linked.specs.walrus_pairing.walrus_instr.declared.instr.LegacyCatch.TheVariants as legacy
 use Rattle.walrus_parsed_linked.specs.walrus_pairing.walrus_instr.declared.seq.InstrLocId.{InstrLocId}
 use Rattle.walrus_parsed_linked.specs.walrus_pairing.walrus_instr.declared.seq.InstrSeq.{InstrSeq}
 use Rattle.walrus_parsed_linked.specs.walrus_pairing.walrus_instr.declared.seq.InstrSeqType.{InstrSeqType}
-use Rattle.walrus_parsed_linked.specs.walrus_pairing.walrus_instr.declared.seq.InstrSeqType.TheVariants.{Simple, MultiValue}
 use Rattle.walrus_parsed_linked.specs.walrus_parsed_items.walrus_parse.walrus_module.walrus_builder.Built.{Seq, seq_of}
-use Rattle.walrus_parsed_linked.specs.walrus_parsed_items.walrus_parse.walrus_file_bodies.walrus_items_into.walrus_module_env.walrus_handler_types.walrus_handler_laws.walrus_tree.walrus_walks.Tree.{children, children_in, handlers}
+use Rattle.walrus_parsed_linked.specs.walrus_parsed_items.walrus_parse.walrus_file_bodies.walrus_items_into.walrus_module_env.walrus_handler_types.walrus_handler_laws.walrus_tree.walrus_walks.Tree.{children_in, handlers}
 use Rattle.walrus_parsed_linked.specs.walrus_parsed_items.walrus_parse.walrus_file_bodies.walrus_items_into.walrus_module_env.walrus_handler_types.walrus_handler_laws.walrus_tree.Trees.{Has, IsTree, Nothing, Stand, Tree, Trees, ids}
 use Rattle.walrus_parsed_linked.specs.walrus_pairing.Laws.{OperatorComesBack}
-use Rattle.walrus_parsed_linked.specs.walrus_parsed_items.walrus_parse.walrus_file_bodies.walrus_items_into.walrus_module_env.walrus_handler_types.walrus_handler_laws.walrus_body_steps.walrus_body_nesting.declared.frames.Opener.{Opener}
-use Rattle.walrus_parsed_linked.specs.walrus_parsed_items.walrus_parse.walrus_file_bodies.walrus_items_into.walrus_module_env.walrus_handler_types.walrus_handler_laws.walrus_body_steps.walrus_body_nesting.declared.frames.Opener.TheVariants as openers
-use Rattle.walrus_parsed_linked.specs.walrus_parsed_items.walrus_parse.walrus_file_bodies.walrus_items_into.walrus_module_env.walrus_handler_types.walrus_handler_laws.walrus_body_steps.walrus_body_nesting.Opens.{Makes, type_at}
-use Rattle.walrus_parsed_linked.specs.walrus_parsed_items.walrus_parse.walrus_file_bodies.walrus_items_into.walrus_module_env.walrus_handler_types.walrus_handler_laws.walrus_body_steps.walrus_body_nesting.Stands.{Block as Whole, EndsOnce, Ended, Finish, Handles, HandlesAll, Otherwise, Part, StandsAs, Turn, lies, none, parts_of, with}
-use Rattle.walrus_parsed_linked.specs.walrus_parsed_items.walrus_parse.walrus_file_bodies.walrus_items_into.walrus_module_env.walrus_handler_types.walrus_handler_laws.walrus_body_steps.walrus_body_rules.Sights.{Sight, block_of, function_block, handler_of, look, results_of, tag_params, written_block}
+use Rattle.walrus_parsed_linked.specs.walrus_parsed_items.walrus_parse.walrus_file_bodies.walrus_items_into.walrus_module_env.walrus_handler_types.walrus_handler_laws.walrus_body_steps.walrus_body_nesting.Stands.{Ended, Finish, Handles, HandlesAll, Otherwise, Part, StandsAs, Turn, lies, none, with}
+use Rattle.walrus_parsed_linked.specs.walrus_parsed_items.walrus_parse.walrus_file_bodies.walrus_items_into.walrus_module_env.walrus_handler_types.walrus_handler_laws.walrus_body_steps.walrus_body_rules.Sights.{Sight, handler_of, results_of, tag_params}
 use Rattle.walrus_parsed_linked.specs.walrus_parsed_items.walrus_parse.walrus_file_bodies.walrus_items_into.walrus_module_env.walrus_handler_types.walrus_handler_laws.walrus_body_steps.Meanings.{OpensOf, TurnsTo, meaning}
 use Rattle.walrus_parsed_linked.specs.walrus_parsed_items.walrus_parse.walrus_file_bodies.walrus_items_into.walrus_module_env.walrus_handler_types.walrus_handler_laws.declared.handler.Handler.{Handler}
-use Rattle.walrus_parsed_linked.specs.walrus_parsed_items.walrus_parse.walrus_file_bodies.walrus_items_into.walrus_module_env.walrus_handler_types.walrus_handler_laws.Handlers.{AreTold, Slot, TellsHandlers, part_slots, seq_slots, slots, slots_in, tag_handler, tree_ids, turn_handler}
+use Rattle.walrus_parsed_linked.specs.walrus_parsed_items.walrus_parse.walrus_file_bodies.walrus_items_into.walrus_module_env.walrus_handler_types.walrus_handler_laws.Handlers.{AreTold, TellsHandlers, seq_slots, slots, slots_in, tag_handler, tree_ids, turn_handler}
 use Rattle.walrus_parsed_linked.specs.walrus_parsed_items.walrus_parse.walrus_file_bodies.walrus_items_into.walrus_module_env.walrus_handler_types.walrus_handler_laws.Retyping.{Widens, handler_params}
 use Rattle.walrus_parsed_groups.specs.Added.{Signature}
 use Rattle.walrus_parsed_groups.specs.Catches.{catches, opened_results, part_signature}
 use Rattle.walrus_parsed_groups.specs.Handlers.{signature_of}
 use Rattle.walrus_parsed_linked.proofs.walrus_body_walks.Fitting.{RunsFit}
+use Rattle.walrus_parsed_linked.proofs.walrus_body_walks.walrus_body_trees.Instrs.{made_children, seqs_in}
+use Rattle.walrus_parsed_linked.proofs.walrus_body_walks.walrus_handler_laws.Standing.{PartsTold, makes_told, told_front, written_kept, results_kept}
 use Rattle.walrus_parsed_groups.proofs.FitLemmas.{run_none}
 use Rattle.walrus_parsed_groups.proofs.ToldLemmas.{seen_at}
 
@@ -59,56 +52,6 @@ stand_split b (Tree id inside beside) around (k ∷ ks) ls (same, s, found, with
 none_stand : (b : List InstrSeq) (x : Trees) (around : List ℕ) → Stand b x around [] → ids x ≡ []
 none_stand b Nothing around h = refl
 none_stand b (Tree id inside beside) around h = absurd h
-
-told_front : (js : List ℕ) (told : ℕ → Option Handler) (xs ys : List Slot) → AreTold js told (xs ++ ys) → AreTold js told xs × AreTold js told ys
-told_front js told [] ys h = (tt, h)
-told_front js told (x ∷ xs) ys h = let r = told_front js told xs ys h.2 in ((h.0, h.1, r.0), r.1)
-
--- ---- what is held by what
-
-abbrev pub seqs_in : List Part → List ℕ
-seqs_in ms = map (λ (p : Part). p.seq) ms
-
-handlers_are : (cs : List LegacyCatch) → EndsOnce cs → handlers cs ≡ seqs_in (parts_of cs)
-handlers_are [] h = refl
-handlers_are (legacy.Catch tag k ∷ cs) h = ap (λ (ks : List ℕ). k ∷ ks) (handlers_are cs h)
-handlers_are (legacy.CatchAll k ∷ cs) h = ap (λ (ks : List ℕ). k ∷ ks) (handlers_are cs h)
-handlers_are (legacy.Delegate n ∷ cs) h = ap handlers h
-
-made_children : (g : Opener) (i : Instr) (q : Whole) → Makes g i q → children i ≡ q.first ∷ seqs_in q.more
-made_children openers.Block i q h = ap children h.0 ∙ ap (λ (ms : List Part). q.first ∷ seqs_in ms) (sym h.1)
-made_children openers.Loop i q h = ap children h.0 ∙ ap (λ (ms : List Part). q.first ∷ seqs_in ms) (sym h.1)
-made_children openers.If i q h = ap children h.1 ∙ ap (λ (ms : List Part). q.first ∷ seqs_in ms) (sym h.2)
-made_children openers.Try i q h =
-    ap children h.1 ∙ ap (λ (ks : List ℕ). q.first ∷ ks) (handlers_are h.0.items h.4) ∙ ap (λ (ms : List Part). q.first ∷ seqs_in ms) (sym h.2)
-made_children (openers.TryTable cs) i q h = ap children h.0 ∙ ap (λ (ms : List Part). q.first ∷ seqs_in ms) (sym h.1)
-
-module _ (js : List ℕ) (told : ℕ → Option Handler) (tags : ℕ → Option ℕ) (b : List Seq) where
-  -- the further parts of a block of this type are told so
-  abbrev pub PartsTold : InstrSeqType → List Part → Type 0
-  PartsTold ty [] = Unit {0}
-  PartsTold ty (n ∷ ms) = Has js n.seq × (told n.seq ≡ turn_handler tags ty n.turn) × PartsTold ty ms
-
-  parts_told : (ty : InstrSeqType) (cs : List LegacyCatch) → EndsOnce cs → AreTold js told (part_slots tags (Some ty) cs) → PartsTold ty (parts_of cs)
-  parts_told ty [] once h = tt
-  parts_told ty (legacy.Catch tag k ∷ cs) once h = (h.0, h.1, parts_told ty cs once h.2)
-  parts_told ty (legacy.CatchAll k ∷ cs) once h = (h.0, h.1, parts_told ty cs once h.2)
-  parts_told ty (legacy.Delegate n ∷ cs) once h = tt
-
-  -- of an instruction that holds this block
-  makes_told : (g : Opener) (i : Instr) (q : Whole) (x : Seq) → Makes g i q → slice_get b q.first ≡ Some x → AreTold js told (slots tags b i) → Has js q.first × (told q.first ≡ None) × PartsTold x.ty q.more
-  makes_told openers.Block i q x (is, more, fin) found h =
-      let a = subst (λ (j : Instr). AreTold js told (slots tags b j)) is h in (a.0, a.1, subst (PartsTold x.ty) (sym more) tt)
-  makes_told openers.Loop i q x (is, more, fin) found h =
-      let a = subst (λ (j : Instr). AreTold js told (slots tags b j)) is h in (a.0, a.1, subst (PartsTold x.ty) (sym more) tt)
-  makes_told openers.If i q x (k, is, more, fin) found h =
-      let a = subst (λ (j : Instr). AreTold js told (slots tags b j)) is h in (a.0, a.1, subst (PartsTold x.ty) (sym more) a.2)
-  makes_told openers.Try i q x (cs, is, more, fin, once) found h =
-      let a = subst (λ (j : Instr). AreTold js told (slots tags b j)) is h in
-      let typed : type_at b q.first ≡ Some x.ty = ap (option_map (λ (y : Seq). y.ty)) found in
-      (a.0, a.1, subst (PartsTold x.ty) (sym more) (parts_told x.ty cs.items once (subst (λ (o : Option InstrSeqType). AreTold js told (part_slots tags o cs.items)) typed a.2)))
-  makes_told (openers.TryTable cs) i q x (is, more, fin) found h =
-      let a = subst (λ (j : Instr). AreTold js told (slots tags b j)) is h in (a.0, a.1, subst (PartsTold x.ty) (sym more) tt)
 
 -- ---- what a sight sees
 
@@ -253,25 +196,6 @@ module _ (s v : Sight) (wide : Widens s v) (c : List Seq) where
   abbrev u : Sight
   u = record v { ids = s.ids; function = s.function }
 
-  block_kept : (ps rs qs ts : Option (List ValType)) (ty : InstrSeqType) → ((l : List ValType) → ps ≡ Some l → qs ≡ Some l) → ((l : List ValType) → rs ≡ Some l → ts ≡ Some l)
-      → block_of s ps rs ≡ Some ty → block_of u qs ts ≡ Some ty
-  block_kept None rs qs ts ty p r h = absurd cc
-  block_kept (Some a) None qs ts ty p r h = absurd cc
-  block_kept (Some a) (Some b) qs ts ty p r h = rw (p a refl) (rw (r b refl) (wide.blocks a b ty h))
-
-  function_kept : (o : Option ℕ) (ty : InstrSeqType) → function_block s o ≡ Some ty → function_block u o ≡ Some ty
-  function_kept None ty h = h
-  function_kept (Some id) ty h = block_kept (s.params id) (s.results id) (u.params id) (u.results id) ty (wide.params id) (wide.results id) h
-
-  written_kept : (w : BlockType) (ty : InstrSeqType) → written_block s w ≡ Some ty → written_block u w ≡ Some ty
-  written_kept blocks.Empty ty h = h
-  written_kept (blocks.Value x) ty h = h
-  written_kept (blocks.Type n) ty h = function_kept (look s Types n) ty h
-
-  results_kept : (block : InstrSeqType) (l : List ValType) → results_of s block ≡ Some l → results_of u block ≡ Some l
-  results_kept (Simple ty) l h = h
-  results_kept (MultiValue id) l h = wide.results id l h
-
   -- what a handler that has a type takes and gives
   part_kept : (o : Option ℕ) (tag : ℕ) (block own : InstrSeqType) → s.tag_type tag ≡ o → handler_of s (tag_params s o) (results_of s block) ≡ Some own
       → signature_of (tag_params u (u.tag_type tag)) (results_of u block) ≡ signature_of (tag_params s o) (results_of s block)
@@ -284,14 +208,14 @@ module _ (s v : Sight) (wide : Widens s v) (c : List Seq) where
       both (Some ps) (Some rs) p r h =
           ap (λ (x : Option ℕ). signature_of (tag_params u x) (results_of u block)) (wide.tags tag t e)
           ∙ ap (λ (x : Option (List ValType)). signature_of x (results_of u block)) (wide.params t ps p)
-          ∙ ap (signature_of (Some ps)) (results_kept block rs r)
+          ∙ ap (signature_of (Some ps)) (results_kept s v wide block rs r)
 
   all_kept : (block own : InstrSeqType) → handler_of s (Some []) (results_of s block) ≡ Some own → signature_of (Some []) (results_of u block) ≡ signature_of (Some []) (results_of s block)
   all_kept block own h = go (results_of s block) refl h
     where
       go : (rs : Option (List ValType)) → results_of s block ≡ rs → handler_of s (Some []) rs ≡ Some own → signature_of (Some []) (results_of u block) ≡ signature_of (Some []) rs
       go None r h = absurd cc
-      go (Some rs) r h = ap (signature_of (Some [])) (results_kept block rs r)
+      go (Some rs) r h = ap (signature_of (Some [])) (results_kept s v wide block rs r)
 
   turn_kept : (block own : InstrSeqType) (o : Seen) (turn : Turn) → TurnsTo s block o turn own → part_signature u (results_of u block) (flow_of o.code) o.items ≡ part_signature s (results_of s block) (flow_of o.code) o.items
   turn_kept block own o Otherwise (flow, is) = rw flow refl
@@ -299,7 +223,7 @@ module _ (s v : Sight) (wide : Widens s v) (c : List Seq) where
   turn_kept block own o HandlesAll (flow, is) = rw flow (all_kept block own is)
 
   opened_kept : (o : Seen) (ty : InstrSeqType) → OpensOf s o ty → opened_results u o.items ≡ results_of u ty
-  opened_kept o ty (written, more, items, is) = ap (opened_results u) items ∙ ap (option_and_then (results_of u)) (written_kept written ty is)
+  opened_kept o ty (written, more, items, is) = ap (opened_results u) items ∙ ap (option_and_then (results_of u)) (written_kept s v wide written ty is)
 
   opened_seen : (o : Seen) (ty : InstrSeqType) → OpensOf s o ty → opened_results s o.items ≡ results_of s ty
   opened_seen o ty (written, more, items, is) = ap (opened_results s) items ∙ ap (option_and_then (results_of s)) is

@@ -17,7 +17,7 @@ use Rattle.walrus_section_reader.specs.Steps.{whole_by, window_by, sized_by, all
 use Rattle.walrus_section_reader.specs.Repeats.{joined, same_end, fails_at, fails_then, fails_as}
 
 -- what the contents are parsed to, once they are at hand
-abbrev finishes : {S : Type 0} → (List ℕ → Result S Stop) → List ℕ × List ℕ → Parsing S
+abbrev pub finishes : {S : Type 0} → (List ℕ → Result S Stop) → List ℕ × List ℕ → Parsing S
 finishes parse o = before (length o.1) (parse o.0) >>= λ x. Ok (x, o.1)
 
 window_is : {S : Type 0} (parse : List ℕ → Result S Stop) (left : ℕ) (n : ℕ × List ℕ) → window_by parse left n ≡ (opens left n >>= finishes parse)
@@ -33,7 +33,7 @@ sized_go : {S : Type 0} (parse : List ℕ → Result S Stop) (left : ℕ) (r : P
 sized_go parse left (Ok n) = window_is parse left n
 sized_go parse left (Err e) = refl
 
-sized_is : {S : Type 0} (parse : List ℕ → Result S Stop) (bytes : List ℕ) → sized_by parse bytes ≡ (opened_at bytes >>= finishes parse)
+pub sized_is : {S : Type 0} (parse : List ℕ → Result S Stop) (bytes : List ℕ) → sized_by parse bytes ≡ (opened_at bytes >>= finishes parse)
 unfolding opened_at
 sized_is parse bytes = sized_go parse (length bytes) (u32.parse bytes)
 
@@ -44,7 +44,7 @@ not_opened parse view old new e p = record {
   moves = p.moves;
 }
 
-moved_stop : (now later : Cursor) (e : Fault) (k : ℕ) → end_of now + k ≡ end_of later → e.offset ≤ end_of now → stop (trouble_of e.kind) ((end_of now - e.offset) + k) ≡ stop_of later e
+pub moved_stop : (now later : Cursor) (e : Fault) (k : ℕ) → end_of now + k ≡ end_of later → e.offset ≤ end_of now → stop (trouble_of e.kind) ((end_of now - e.offset) + k) ≡ stop_of later e
 moved_stop now later e k sums le = ap (λ (n : ℕ). stop (trouble_of e.kind) n) (omega (arith, sums, le))
 
 fails_before : {A B : Type 0} (now later : Cursor) (e : Fault) (k : ℕ) (first : Result A Stop) (f : A → Result B Stop) → end_of now + k ≡ end_of later → e.offset ≤ end_of now
@@ -52,7 +52,7 @@ fails_before : {A B : Type 0} (now later : Cursor) (e : Fault) (k : ℕ) (first 
 fails_before now later e k first f sums le (inl h) = inl (rw h (ap (λ (s : Stop). refused s) (moved_stop now later e k sums le)))
 fails_before now later e k first f sums le (inr h) = inr h
 
-opened_to : {S : Type 0} (parse : List ℕ → Result S Stop) (old new inner : Cursor) → ParsesExactly opened_at seen_window old new (Ok inner) → IsInner new inner
+pub opened_to : {S : Type 0} (parse : List ℕ → Result S Stop) (old new inner : Cursor) → ParsesExactly opened_at seen_window old new (Ok inner) → IsInner new inner
     → sized_by parse (rest old) ≡ finishes parse (rest inner, rest new)
 opened_to parse old new inner p within = sized_is parse (rest old) ∙ rw (p.value, within.begins) refl
 
