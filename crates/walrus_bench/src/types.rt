@@ -1,4 +1,4 @@
-//! Works on type tables: `walrus_bench types SINGLES GROUPS LOOKED_UP EDITS FRONTS`. `bench/types.py` times it.
+//! Works on type tables: `walrus_bench types SINGLES GROUPS LOOKED_UP EDITS FRONTS`. `bench/type_tables.py` times it.
 //!
 //! Makes so many single function types and groups of two structures that name each other, writes them,
 //! parses what was written into a new table, adds half of the single types again, and writes that table.

@@ -1,7 +1,7 @@
 #!/usr/bin/env python3
 """Times the reading of 64 MiB of numbers of one to five bytes against a loop in C, and prints the ratio.
 
-    bench/numbers.py [--size BYTES] [--rounds N]
+    bench/leb128.py [--size BYTES] [--rounds N]
 
 Both read the same data, and must read the same. A time is the least of the rounds.
 """
@@ -27,7 +27,7 @@ def main():
     asked = words.parse_args()
     with tempfile.TemporaryDirectory() as folder:
         loop = f"{folder}/numbers"
-        subprocess.run(["gcc", "-O2", "-o", loop, f"{ROOT}/bench/numbers.c"], check=True)
+        subprocess.run(["gcc", "-O2", "-o", loop, f"{ROOT}/bench/leb128.c"], check=True)
         # proved and built anew where its sources are newer
         print("building walrus_bench", file=sys.stderr)
         subprocess.run(["rt", "run", "--", "numbers", "16"], cwd=CRATE, check=True, stdout=subprocess.DEVNULL, stderr=subprocess.DEVNULL)

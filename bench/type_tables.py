@@ -2,7 +2,7 @@
 """Times the table of types: adds, writes, parses, merges and writes again so many types, looks types up, edits a
 table, and adds types with one long front, and prints the time of each.
 
-    bench/types.py [--rounds N]
+    bench/type_tables.py [--rounds N]
 
 A time is the processor's, of a whole run of `walrus_bench types`, the least of the rounds; what a run of no look-ups
 takes is taken off that of the look-ups.

@@ -1,7 +1,7 @@
 #!/usr/bin/env python3
 """Times adding, finding and deleting items in each of a module's nine collections, and prints the time an item.
 
-    bench/collections.py [--rounds N]
+    bench/item_collections.py [--rounds N]
 
 A time is the least of the rounds. In brackets stands what an item takes at that size against the size before, half of it: 1 is linear.
 """
