@@ -1,18 +1,15 @@
 // Rewriting a module, from bytes to bytes.
-ghost use Rattle.std.specs.Prelude.{◌≡◌, ◌≤◌, ⊤, length, IfOk, IfErr, IfSome, MatchResult, vec_items, vec_len};
-ghost use Rattle.std.specs.Option.{option_map};
-ghost use Rattle.wasm_model.specs.Features.{features_of};
-ghost use Rattle.wasm_model.specs.Module.{Module};
-ghost use Rattle.wasm_model.specs.Rules.{Reads};
-ghost use Rattle.wasm_model.specs.Rewrites.{Rewritten as IsRewritten, IsRefused};
-ghost use Rattle.wasm_rewriter.specs.Accepts.{MayBeRefused};
 
+use crate::faults::fault_of;
+use crate::none::NoSection;
 use crate::{Fault, Options};
-use rewriter_devices::MAX_INPUT_LEN;
-use rewriter_part::number;
-use rewriter_reader::parse;
-use rewriter_writer::write_module;
 use std::alloc::{AllocError, Global};
+use walrus_config::ModuleConfig;
+use walrus_emit::{Emitted, emit_sound};
+use walrus_errors::ModuleError;
+use walrus_module::Module;
+use walrus_parse::parse_into;
+use walrus_passes::gc;
 
 /// A module's bytes, and the pairs (old, new) of places, by rising new place, where they were asked for.
 #[derive(Drop)]
@@ -27,10 +24,7 @@ impl Rewritten {
     /// # Errors
     ///
     /// Want of memory.
-    pub fn clone(&self) -> Result<Self, AllocError>
-        ensures bytes { IfOk result (λ copy. copy.bytes.items ≡ self.now.bytes.items) }
-        ensures places { IfOk result (λ copy. option_map vec_items copy.places ≡ option_map vec_items self.now.places) }
-    {
+    pub fn clone(&self) -> Result<Self, AllocError> {
         let places = match &self.places {
             Some(places) => Some(places.clone()?),
             None => None,
@@ -42,6 +36,41 @@ impl Rewritten {
     }
 }
 
+// The flags of these options.
+fn config_of(options: &Options) -> ModuleConfig {
+    let mut config = ModuleConfig::new();
+    config.only_stable_features = options.only_stable_features;
+    config.legacy_exceptions = options.legacy_exceptions;
+    config.generate_name_section = options.names;
+    config.generate_producers_section = options.producers;
+    config.preserve_code_transform = options.places;
+    config
+}
+
+// Reads a module, drops what isn't kept, and writes it.
+fn rewrite_module(
+    alloc: Global,
+    bytes: &[u8],
+    config: ModuleConfig,
+) -> Result<Emitted, ModuleError> {
+    let mut module = Module::<NoSection>::with_config(alloc, config);
+    parse_into(alloc, bytes, &mut module)?;
+    gc::run(alloc, &mut module)?;
+    emit_sound(alloc, &mut module)
+}
+
+// What was written, with the pairs of places, by rising new place, where they were asked for.
+fn with_places(emitted: Emitted, places: bool) -> Rewritten {
+    Rewritten {
+        bytes: emitted.bytes,
+        places: if places {
+            Some(emitted.locations)
+        } else {
+            None
+        },
+    }
+}
+
 /// Rewrites a module: keeps what its exports and its start function need, in the shortest spelling.
 ///
 /// # Errors
@@ -49,22 +78,9 @@ impl Rewritten {
 /// The fault that stands first, `OutputLimit` where the output would pass a limit, that of a body before
 /// that of the file, or `Memory` where a growth was refused, once the length and the header were found
 /// right.
-pub fn rewrite(alloc: Global, bytes: &[u8], options: &Options) -> Result<Rewritten, Fault>
-    ensures rewritten { IfOk result (λ out. IsRewritten options.now bytes.now out.bytes.items (option_map vec_items out.places)) }
-    ensures refused { IfErr result (λ fault. IsRefused options.now bytes.now fault) }
-    // what reads is refused for want of memory or for the output's limits alone
-    ensures accepted { IfErr result (λ fault. (m : Module) → Reads (features_of options.now) bytes.now m → MayBeRefused fault) }
-    // each pair has bytes of its own: no promise of the product, but what `run` needs to write the lines
-    ensures few { IfOk result (λ out. IfSome out.places (λ places. vec_len places ≤ vec_len out.bytes)) }
-{
-    if bytes.len() > MAX_INPUT_LEN {
-        return Err(Fault::InputTooLong);
+pub fn rewrite(alloc: Global, bytes: &[u8], options: &Options) -> Result<Rewritten, Fault> {
+    match rewrite_module(alloc, bytes, config_of(options)) {
+        Ok(emitted) => Ok(with_places(emitted, options.places)),
+        Err(error) => Err(fault_of(error)),
     }
-    let module = parse(alloc, bytes, options)?;
-    let numbering = number(alloc, &module)?;
-    let written = write_module(alloc, options, &module, &numbering)?;
-    Ok(Rewritten {
-        bytes: written.bytes,
-        places: written.places,
-    })
 }

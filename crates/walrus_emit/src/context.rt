@@ -1,0 +1,84 @@
+//! What is at hand as sections are written.
+
+use std::alloc::Global;
+use std::ops::Range;
+use walrus_arena::FunctionId;
+use walrus_emit_numbers::{BodyFacts, function_order, number};
+use walrus_errors::{ModuleError, Result, Space};
+use walrus_index_maps::IdsToIndices;
+use walrus_module::Module;
+use walrus_types::{EmittedTypes, IrError};
+
+/// What was written of a module so far, without its custom sections.
+#[derive(Drop)]
+pub struct Emission {
+    /// The numbers of its items.
+    pub indices: IdsToIndices,
+    /// The bytes.
+    pub bytes: Vec<u8>,
+    /// The numbers of the locations of operators that have one, each with its place behind the beginning of the code section's contents, in the order in
+    /// which they are written.
+    pub locations: Vec<(u32, u32)>,
+    /// The bodies, without their sizes, behind that beginning, in the order in which they are written.
+    pub ranges: Vec<(FunctionId, Range<usize>)>,
+    /// The beginning of the code section's contents, or 0.
+    pub code_section_start: usize,
+}
+
+/// What is at hand as sections are written: the module, the numbers of its items, the bytes, what is known of its bodies, and the places
+/// of operators.
+#[derive(Drop)]
+pub struct EmitContext<'a, B> {
+    pub(crate) alloc: Global,
+    /// The module.
+    pub module: &'a Module<B>,
+    /// What is known of its bodies, by rising id.
+    pub facts: &'a [BodyFacts],
+    /// The positions of the bodies' facts, in the order in which they are written.
+    pub order: Vec<usize>,
+    /// Its types as they are written.
+    pub types: EmittedTypes,
+    /// What was written.
+    pub emission: Emission,
+}
+
+fn refusal_of(error: IrError) -> ModuleError {
+    match error {
+        IrError::Memory => ModuleError::Memory,
+        _ => ModuleError::DeadReference { space: Space::Type },
+    }
+}
+
+fn emitted<B>(input: &Module<B>) -> Result<EmittedTypes> {
+    match input.types.emit() {
+        Ok(types) => Ok(types),
+        Err(error) => Err(refusal_of(error)),
+    }
+}
+
+impl<'a, B> EmitContext<'a, B> {
+    /// All items of a linked module have their numbers, and nothing is written.
+    ///
+    /// # Errors
+    ///
+    /// `DeadReference` of a type, where a type names what isn't written, or a later one past its group; want of memory.
+    pub fn new(alloc: Global, input: &'a Module<B>, facts: &'a [BodyFacts]) -> Result<Self> {
+        let types = emitted(input)?;
+        let order = function_order(alloc, facts)?;
+        let indices = number(alloc, input, types.ids.as_slice(), facts, order.as_slice())?;
+        Ok(EmitContext {
+            alloc,
+            module: input,
+            facts,
+            order,
+            types,
+            emission: Emission {
+                indices,
+                bytes: Vec::new(alloc),
+                locations: Vec::new(alloc),
+                ranges: Vec::new(alloc),
+                code_section_start: 0,
+            },
+        })
+    }
+}

@@ -1,0 +1,134 @@
+//! Custom sections (Core Specification, binary format: custom section).
+
+use std::alloc::Global;
+use walrus_arena::UntypedCustomSectionId;
+use walrus_emit_parts::{Part, write_bytes, write_name, write_section as write_part};
+use walrus_errors::Result;
+use walrus_index_maps::IdsToIndices;
+use walrus_sections::{CodeTransform, CustomSection, Sections};
+
+// The sections that stand first.
+pub fn is_first(name: &str) -> bool {
+    name == "dylink" || name == "dylink.0"
+}
+
+// The sections that aren't written.
+fn is_skipped(name: &str) -> bool {
+    name.starts_with(".debug")
+}
+
+// A name, and contents.
+#[derive(Clone, Copy)]
+struct Custom<'a> {
+    name: &'a str,
+    contents: &'a [u8],
+}
+
+impl<'a> Part for Custom<'a> {
+    ghost due = { todo };
+    fn write(&self, out: &mut Vec<u8>) -> Result<()> {
+        put!(write_name(out, self.name));
+        write_bytes(out, self.contents)
+    }
+}
+
+fn write_custom(out: &mut Vec<u8>, name: &str, contents: &[u8]) -> Result<()> {
+    write_part(out, 0, &Custom { name, contents })
+}
+
+// Asks a section of a program's own for its contents.
+fn write_boxed<B: CustomSection>(
+    alloc: Global,
+    out: &mut Vec<u8>,
+    section: &B,
+    maps: &IdsToIndices,
+) -> Result<()> {
+    let payload = section.data(alloc, maps)?;
+    write_custom(out, section.name(), payload.as_slice())
+}
+
+fn write_section<B: CustomSection>(
+    alloc: Global,
+    out: &mut Vec<u8>,
+    sections: &Sections<B>,
+    id: UntypedCustomSectionId,
+    maps: &IdsToIndices,
+) -> Result<()> {
+    if let Some(section) = sections.get_raw(id) {
+        return write_custom(out, section.name.as_str(), section.bytes.as_slice());
+    }
+    match sections.get(id) {
+        Some(section) => write_boxed(alloc, out, section, maps),
+        None => Ok(()),
+    }
+}
+
+// Whether a section is written among those that stand first, or among the others.
+fn stands<B: CustomSection>(
+    sections: &Sections<B>,
+    id: UntypedCustomSectionId,
+    first: bool,
+) -> bool {
+    match sections.name(id) {
+        Some(name) => is_first(name) == first && !is_skipped(name),
+        None => false,
+    }
+}
+
+/// The sections that stand first, or the others, by id.
+pub fn write_sections<B: CustomSection>(
+    alloc: Global,
+    out: &mut Vec<u8>,
+    sections: &Sections<B>,
+    first: bool,
+    maps: &IdsToIndices,
+) -> Result<()> {
+    for id in sections.iter() {
+        if stands(sections, id, first) {
+            write_section(alloc, out, sections, id, maps)?;
+        }
+    }
+    Ok(())
+}
+
+// Tells a section of a program's own where code stands.
+fn transform_one<B: CustomSection>(
+    sections: &mut Sections<B>,
+    id: UntypedCustomSectionId,
+    transform: &CodeTransform,
+) {
+    if let Some(section) = sections.get_mut(id) {
+        section.apply_code_transform(transform);
+    }
+}
+
+// The ids of the sections that are told.
+fn told<B: CustomSection>(
+    alloc: Global,
+    sections: &Sections<B>,
+) -> Result<Vec<UntypedCustomSectionId>> {
+    let mut ids = Vec::new(alloc);
+    for id in sections.iter() {
+        if stands(sections, id, false) {
+            ids.push(id)?;
+        }
+    }
+    Ok(ids)
+}
+
+/// Tells the sections of a program's own, but those that stand first, where code stands.
+///
+/// # Errors
+///
+/// Want of memory. None is told.
+pub fn transform_sections<B: CustomSection>(
+    alloc: Global,
+    sections: &mut Sections<B>,
+    transform: &CodeTransform,
+) -> Result<()> {
+    let ids = told(alloc, &*sections)?;
+    for id in &ids {
+        transform_one(sections, *id, transform);
+    }
+    Ok(())
+}

@@ -1,0 +1,55 @@
+//! What is known of the bodies of a module before they are written.
+
+use crate::referred::named_functions;
+use crate::refusals::refusal_of_body;
+use std::alloc::Global;
+use walrus_arena::{FunctionId, LocalId};
+use walrus_errors::Result;
+use walrus_module::collections::ModuleFunctions;
+use walrus_module::local_function::LocalFunction;
+
+/// What is known of a function with a body.
+#[derive(Drop)]
+pub struct BodyFacts {
+    /// The function.
+    pub function: FunctionId,
+    /// How many instructions it has.
+    pub size: u64,
+    /// Whether it names a data segment.
+    pub uses_data_segments: bool,
+    /// The locals that it names, each once.
+    pub used_locals: Vec<LocalId>,
+    /// The functions to which it refers.
+    pub referred: Vec<FunctionId>,
+}
+
+fn facts_at(alloc: Global, function: FunctionId, local: &LocalFunction) -> Result<BodyFacts> {
+    let facts = match local.emit_facts(alloc) {
+        Ok(facts) => facts,
+        Err(fault) => return Err(refusal_of_body(fault)),
+    };
+    let referred = match named_functions(alloc, local.builder()) {
+        Ok(referred) => referred,
+        Err(fault) => return Err(refusal_of_body(fault)),
+    };
+    Ok(BodyFacts {
+        function,
+        size: facts.size,
+        uses_data_segments: facts.uses_data_segments,
+        used_locals: facts.used_locals,
+        referred,
+    })
+}
+
+/// The facts of all bodies, by rising id.
+///
+/// # Errors
+///
+/// `NoTree` where the sequences of a body form none; want of memory.
+pub fn facts_of(alloc: Global, functions: &ModuleFunctions) -> Result<Vec<BodyFacts>> {
+    let mut facts = Vec::new(alloc);
+    for (function, local) in functions.iter_local() {
+        facts.push(facts_at(alloc, function, local)?)?;
+    }
+    Ok(facts)
+}

@@ -1,0 +1,17 @@
+//! The numbers of a module's items, and what is known of its bodies before they are written: which functions have to be declared, and in
+//! which order functions stand.
+#![tactic(auto)]
+
+mod declared;
+mod facts;
+mod numbers;
+mod order;
+mod referred;
+mod refusals;
+
+pub use declared::undeclared;
+pub use facts::{BodyFacts, facts_of};
+pub use numbers::number;
+pub use order::{function_order, names_data};
+pub use referred::named_functions;
+pub use refusals::refusal_of_body;
