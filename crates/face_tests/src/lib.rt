@@ -1,5 +1,5 @@
 //! Calls above the faces `wasmparser`, `walrus_ir` and `walrus_body`, with contracts in words that these pass on, and the example of
-//! README.md above `wasm_rewriter`.
+//! README.md above `walrus`.
 #![tactic(auto)]
 
 ghost use Rattle.std.specs.Prelude.{◌≡◌, IfErr, IfOk, OnErr, MatchBool};

@@ -1,10 +1,11 @@
-//! The example of `README.md`, *From a crate of one's own*, as it stands there.
+//! The example of `README.md`, *The library*, as it stands there.
 
 use std::alloc::Global;
-use wasm_rewriter::{Fault, Options, rewrite};
+use walrus::{EmitWasm, FromBuffer, Module, Result, passes::gc};
 
-pub fn without_unused(alloc: Global, module: &[u8]) -> Result<Vec<u8>, Fault> {
-    let mut options = Options::new();
-    options.producers = false;
-    Ok(rewrite(alloc, module, &options)?.bytes)
+/// The module without what nothing reaches.
+pub fn without_unused(alloc: Global, bytes: &[u8]) -> Result<Vec<u8>> {
+    let mut module: Module = Module::from_buffer(alloc, bytes)?;
+    gc::run(alloc, &mut module)?;
+    module.emit_wasm(alloc)
 }

@@ -1,6 +1,8 @@
-//! WebAssembly modules as a program edits them: a module's collections of items under ids, its flags and refusals.
+//! WebAssembly modules as a program reads, edits, drops from and writes them: a module's collections of items under ids, its flags and refusals. Ids, types and
+//! instructions stand in `ir`.
 #![tactic(auto)]
 
+pub use walrus_body_env::BodyError;
 pub use walrus_collections::local_function::LocalFunction;
 pub use walrus_collections::{
     Collection, ExportOf, ImportOf, Items, LocalFunctions, ModuleData, ModuleElements,
@@ -9,7 +11,10 @@ pub use walrus_collections::{
 };
 pub use walrus_config::ModuleConfig;
 pub use walrus_customs::{ModuleProducers, ProducerField, ProducerValue, RawCustomSection};
+pub use walrus_emit::{Emit, EmitContext, EmitWasm};
 pub use walrus_errors::{ErrorKind, Form, Limited, ModuleError, Result, Space};
+pub use walrus_index_maps::{IdsToIndices, IndicesToIds};
+pub use walrus_ir as ir;
 pub use walrus_meaning_kept::module::Module;
 pub use walrus_module_items::{
     Data, DataKind, Element, ElementItems, ElementKind, Export, ExportItem, FuncParams,
