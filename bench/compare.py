@@ -1,17 +1,13 @@
 #!/usr/bin/env python3
-"""Times the program against wasm-opt and wasm-strip, and prints times, peak memory and ratios.
+"""Times the program against wasm-opt and wasm-strip on large files made of real ones, and prints a table of times, memory and what is written.
 
-    bench/compare.py [--seed N] [--size BYTES] [--functions N] [--rounds N] [--calls]
+    bench/compare.py [--program PROGRAM] [--rounds N] FILE TIMES [FILE TIMES ..]
 
-It makes a module of half the size and half the functions, and one of the whole. Each program reads a module
-and writes one; wasm-opt runs no passes. With --calls the functions call one another and half are not reached,
-and wasm-opt is also run with --remove-unused-module-elements, as "wasm-opt unused". A time is the least of the
-rounds, in seconds, by the clock and of the processor; memory is the most that was resident. What our program
-writes must be a module for wasm-opt, and without a producers section must stay as it is when it is rewritten
-again. binaryen and wabt are installed where they are missing.
+Of each FILE two files are made for each of TIMES / 2 and TIMES (`bench/repeated.py`): one with all functions exported, so that all are kept, and one in which what
+the first copy doesn't reach is dropped. A time is the least of the rounds, of the processor and, behind a slash, by the clock; memory is the most that was resident; the last column is the
+factor by which our time grew as the file doubled. The program is `wasm_rewriter` as `bin/` has it proved, or another build of it. binaryen and wabt are installed where they are missing.
 """
 import argparse
-import filecmp
 import os
 import shutil
 import subprocess
@@ -19,10 +15,7 @@ import sys
 import tempfile
 import time
 
-from make_module import bytes_of
-
 ROOT = os.path.dirname(os.path.dirname(os.path.abspath(__file__)))
-LAUNCHER = f"{ROOT}/bin/wasm_rewriter"
 PROGRAM = f"{ROOT}/crates/wasm_rewriter_cli/out/wasm_rewriter_cli"
 PACKAGES = {"wasm-opt": "binaryen", "wasm-strip": "wabt"}
 
@@ -71,90 +64,68 @@ def measured(words, settings=None):
     return took, usage.ru_utime + usage.ru_stime, usage.ru_maxrss * 1024
 
 
-def best(command, rounds, target):
-    runs = [measured(command()) for _ in range(rounds)]
+def best(command, rounds):
+    runs = []
+    for _ in range(rounds):
+        words = command()
+        back()
+        runs.append(measured(words, LARGE_PAGES))
     clocks, processors, memories = zip(*runs)
-    return min(clocks), min(processors), max(memories), os.path.getsize(target)
+    return min(clocks), min(processors), max(memories)
 
 
-def make(seed, size, functions, with_calls, file):
-    # In a process of its own: what this one has resident counts as its children's too.
-    script = f"{ROOT}/bench/make_module.py"
-    numbers = ["--seed", str(seed), "--size", str(size), "--functions", str(functions)]
-    calls = ["--calls"] if with_calls else []
-    subprocess.run([sys.executable, script, *numbers, *calls, file], check=True)
-
-
-def check(source, target):
-    """What we write has to be a module for wasm-opt too, and has to stay as it is."""
-    subprocess.run([PROGRAM, source, target], check=True)
-    subprocess.run(["wasm-opt", "--all-features", target, "-o", os.devnull], check=True, stderr=subprocess.DEVNULL)
-    # Without the producers section, as custom sections aren't read yet.
-    again = f"{target}.again"
-    subprocess.run([PROGRAM, "--no-producers", source, target], check=True)
-    subprocess.run([PROGRAM, "--no-producers", target, again], check=True)
-    if not filecmp.cmp(target, again, shallow=False):
-        sys.exit("what was rewritten isn't the same when it is rewritten again")
-
-
-def compare(name, source, rounds, with_calls):
-    """Runs the programs on a module, prints a table, and returns our times and the module's size."""
-    target = f"{source}.out"
-    size = os.path.getsize(source)
-
+def commands(program, source, target):
     def strip():
         # It writes over what it reads.
         shutil.copyfile(source, target)
         return ["wasm-strip", target]
 
-    commands = {
-        "wasm_rewriter": lambda: [PROGRAM, source, target],
-        "wasm-opt": lambda: ["wasm-opt", "--all-features", source, "-o", target],
+    opt = ["wasm-opt", "--all-features"]
+    return {
+        "wasm_rewriter": lambda: [program, source, target],
+        "with places": lambda: [program, "--places", f"{target}.places", source, target],
+        "wasm-opt": lambda: [*opt, source, "-o", target],
+        "wasm-opt unused": lambda: [*opt, "--remove-unused-module-elements", source, "-o", target],
         "wasm-strip": strip,
     }
-    if with_calls:
-        unused = "--remove-unused-module-elements"
-        commands["wasm-opt unused"] = lambda: ["wasm-opt", "--all-features", unused, source, "-o", target]
-    results = {tool: best(command, rounds, target) for tool, command in commands.items()}
-    check(source, target)
-    ours = results["wasm_rewriter"]
-    print(f"\n{name}: {size:,} bytes")
-    heads = ("clock", "times ours", "processor", "times ours", "MiB", "times input", "written", "times ours")
-    print(" " * 16 + "".join(f"{head:>12}" for head in heads))
-    for tool, (clock, processor, memory, written) in results.items():
-        numbers = (
-            f"{clock:.3f}",
-            f"{clock / ours[0]:.2f}",
-            f"{processor:.3f}",
-            f"{processor / ours[1]:.2f}",
-            f"{memory / 2**20:.1f}",
-            f"{memory / size:.2f}",
-            f"{written:,}",
-            f"{written / ours[3]:.2f}",
+
+
+def compare(program, source, rounds, before):
+    """Prints a row a tool, and answers our time."""
+    target = f"{source}.out"
+    size = os.path.getsize(source)
+    ours = None
+    for tool, command in commands(program, source, target).items():
+        clock, processor, memory = best(command, rounds)
+        ours = ours or processor
+        doubled = f"{processor / before:.2f}" if before and tool == "wasm_rewriter" else ""
+        print(
+            f"| {os.path.basename(source)} | {size / 1e6:.1f} | {tool} | {processor:.2f} / {clock:.2f} | {processor / ours:.2f} | "
+            f"{memory / 2**20:.0f} | {os.path.getsize(target) / 1e6:.1f} | {doubled} |",
+            flush=True,
         )
-        print(f"{tool:16}" + "".join(f"{number:>12}" for number in numbers))
-    return ours, size
+    os.remove(target)
+    return ours
 
 
 def main():
-    parser = argparse.ArgumentParser(description=__doc__.splitlines()[0])
-    parser.add_argument("--seed", type=int, default=1)
-    parser.add_argument("--size", type=bytes_of, default=64 * 2**20)
-    parser.add_argument("--functions", type=int, default=1_000_000)
-    parser.add_argument("--rounds", type=int, default=3)
-    parser.add_argument("--calls", action="store_true", help="functions call one another, and half are reached")
-    words = parser.parse_args()
+    words = argparse.ArgumentParser(description=__doc__, formatter_class=argparse.RawDescriptionHelpFormatter)
+    words.add_argument("--program", default=PROGRAM)
+    words.add_argument("--rounds", type=int, default=3)
+    words.add_argument("files", nargs="+", metavar="FILE TIMES")
+    given = words.parse_args()
     install()
-    # Builds the program where it is missing.
-    subprocess.run([LAUNCHER, "--help"], check=True, stdout=subprocess.DEVNULL)
-    with tempfile.TemporaryDirectory(prefix="wasm_rewriter-bench-") as folder:
-        half, whole = f"{folder}/half.wasm", f"{folder}/whole.wasm"
-        make(words.seed, words.size // 2, words.functions // 2, words.calls, half)
-        make(words.seed, words.size, words.functions, words.calls, whole)
-        half_times, half_size = compare("half", half, words.rounds, words.calls)
-        whole_times, whole_size = compare("whole", whole, words.rounds, words.calls)
-    clock, processor = (whole_times[at] / half_times[at] for at in range(2))
-    print(f"\n{whole_size / half_size:.2f} times the input: {clock:.2f} times the clock, {processor:.2f} the processor")
+    print("| File | MB | Tool | Seconds | Times ours | MiB | Written, MB | Doubled |\n|---|---|---|---|---|---|---|---|")
+    with tempfile.TemporaryDirectory() as folder:
+        for file, times in zip(given.files[::2], map(int, given.files[1::2])):
+            name = os.path.basename(file).removesuffix(".wasm")
+            for flags, what in ((["--export-all"], "kept"), ([], "dropped")):
+                before = None
+                for count in (times // 2, times):
+                    source = f"{folder}/{name}_{what}_{count}"
+                    subprocess.run([sys.executable, f"{ROOT}/bench/repeated.py", *flags, file, str(count), source], check=True)
+                    before = compare(given.program, source, given.rounds, before)
+                    os.remove(source)
 
 
 if __name__ == "__main__":
