@@ -1,11 +1,18 @@
 //! Value types whose names are indices (Core Specification, binary format: value types).
 
+ghost use Rattle.std.specs.Prelude.{[], ◌∷◌, ◌++◌};
+ghost use Rattle.walrus_forms.specs.Records.{field_of, heap_of, ref_of, storage_of, value_of};
+ghost use Rattle.walrus_emit_parts.specs.Due.{Writes, written};
+ghost use Rattle.walrus_emit_types.specs.Types.{field, heap, mutability, reference, storage, value};
+
 use walrus_emit_parts::{write_byte, write_signed};
 use walrus_emit_values::write_abstract;
 use walrus_errors::{Form, ModuleError, Result};
 use walrus_forms::{FieldRecord, HeapRecord, RefRecord, StorageRecord, ValRecord};
 
-fn write_heap(out: &mut Vec<u8>, ty: HeapRecord) -> Result<()> {
+fn write_heap(out: &mut Vec<u8>, ty: HeapRecord) -> Result<()>
+    ensures { Writes (heap (heap_of ty)) out.old.items out.new.items result }
+{
     match ty {
         HeapRecord::Abstract(ty) => write_abstract(out, ty),
         HeapRecord::Concrete(index) => write_signed(out, i64::from(index)),
@@ -16,12 +23,17 @@ fn write_heap(out: &mut Vec<u8>, ty: HeapRecord) -> Result<()> {
     }
 }
 
-fn write_long(out: &mut Vec<u8>, first: u8, ty: HeapRecord) -> Result<()> {
+#[tactic(auto, using(walrus_emit_values::proofs::Lemmas::byte_on, walrus_emit_parts::proofs::Lemmas::refused_front))]
+fn write_long(out: &mut Vec<u8>, first: u8, ty: HeapRecord) -> Result<()>
+    ensures { Writes (written (first ∷ []) ++ heap (heap_of ty)) out.old.items out.new.items result }
+{
     put!(write_byte(out, first));
     write_heap(out, ty)
 }
 
-fn write_reference(out: &mut Vec<u8>, ty: RefRecord) -> Result<()> {
+fn write_reference(out: &mut Vec<u8>, ty: RefRecord) -> Result<()>
+    ensures { Writes (reference (ref_of ty)) out.old.items out.new.items result }
+{
     if !ty.nullable {
         return write_long(out, 0x64, ty.heap_type);
     }
@@ -32,7 +44,9 @@ fn write_reference(out: &mut Vec<u8>, ty: RefRecord) -> Result<()> {
 }
 
 /// A value type.
-pub(crate) fn write_value(out: &mut Vec<u8>, ty: ValRecord) -> Result<()> {
+pub(crate) fn write_value(out: &mut Vec<u8>, ty: ValRecord) -> Result<()>
+    ensures { Writes (value (value_of ty)) out.old.items out.new.items result }
+{
     match ty {
         ValRecord::I32 => write_byte(out, 0x7f),
         ValRecord::I64 => write_byte(out, 0x7e),
@@ -43,7 +57,9 @@ pub(crate) fn write_value(out: &mut Vec<u8>, ty: ValRecord) -> Result<()> {
     }
 }
 
-fn write_storage(out: &mut Vec<u8>, ty: StorageRecord) -> Result<()> {
+fn write_storage(out: &mut Vec<u8>, ty: StorageRecord) -> Result<()>
+    ensures { Writes (storage (storage_of ty)) out.old.items out.new.items result }
+{
     match ty {
         StorageRecord::Val(ty) => write_value(out, ty),
         StorageRecord::I8 => write_byte(out, 0x78),
@@ -51,7 +67,9 @@ fn write_storage(out: &mut Vec<u8>, ty: StorageRecord) -> Result<()> {
     }
 }
 
-fn write_mutable(out: &mut Vec<u8>, mutable: bool) -> Result<()> {
+fn write_mutable(out: &mut Vec<u8>, mutable: bool) -> Result<()>
+    ensures { Writes (mutability mutable) out.old.items out.new.items result }
+{
     if mutable {
         write_byte(out, 1)
     } else {
@@ -60,7 +78,10 @@ fn write_mutable(out: &mut Vec<u8>, mutable: bool) -> Result<()> {
 }
 
 /// A field.
-pub(crate) fn write_field(out: &mut Vec<u8>, field: FieldRecord) -> Result<()> {
-    put!(write_storage(out, field.element_type));
-    write_mutable(out, field.mutable)
+#[tactic(auto, using(walrus_emit_parts::proofs::Lemmas::writes_on, walrus_emit_parts::proofs::Lemmas::refused_front))]
+pub(crate) fn write_field(out: &mut Vec<u8>, ty: FieldRecord) -> Result<()>
+    ensures { Writes (field (field_of ty)) out.old.items out.new.items result }
+{
+    put!(write_storage(out, ty.element_type));
+    write_mutable(out, ty.mutable)
 }
