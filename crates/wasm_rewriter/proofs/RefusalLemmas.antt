@@ -1,30 +1,36 @@
 -- Why an input is refused.
-use Rattle.std.proofs.Common.{ℕ, ◌≡◌, ◌<◌, ◌^◌, ◌∙◌, List, length, refl, sym, ap, subst, inl, inr, arith}
+use Rattle.std.proofs.Common.{ℕ, ◌≡◌, ◌<◌, ◌↔◌, ◌^◌, ◌∙◌, List, length, Result, Ok, Err, IfErr, IsErrOf, refl, sym, ap, subst, inl, inr, arith}
 use Rattle.walrus_errors.specs.declared.error.ModuleError.{ModuleError}
 use Rattle.walrus_errors.specs.declared.error.ModuleError.TheVariants as errors
-use Rattle.walrus_parse.specs.Parsed.{read_features}
+use Rattle.walrus_config.specs.declared.config.ModuleConfig.{ModuleConfig}
+use Rattle.walrus_parse.specs.Parsed.{DoesRead, IsRead, read_features}
 use Rattle.walrus_parse.specs.Refusals.{IsRefusal, refusal}
-use Rattle.wasm_formats.specs.Stops.{Trouble, Read, Header, SectionOrder, SectionSize, Count, Index, TypeForm, ConstExpr, OffsetType, Nesting, Position, Operator, Unsupported, DuplicateExport, Bounds, Limit}
+use Rattle.wasm_formats.specs.Stops.{Trouble, Read}
 use Rattle.wasm_formats.specs.wasm_reader.declared.error.ErrorKind.{ErrorKind}
 use Rattle.wasm_formats.specs.wasm_reader.declared.error.ErrorKind.TheVariants as kinds
+use Rattle.walrus_parse.specs.walrus_module.declared.module.Module.{Module as Whole}
 use Rattle.wasm_modules.specs.Laws.{ReadDontStop}
-use Rattle.wasm_modules.specs.Modules.{IsShort}
 use Rattle.wasm_rewriter.specs.declared.fault.Fault.{Fault}
 use Rattle.wasm_rewriter.specs.declared.fault.Fault.TheVariants as faults
 use Rattle.wasm_rewriter.specs.declared.options.Options.{Options}
 use Rattle.wasm_rewriter.specs.Faults.{fault_of, late_fault}
 use Rattle.wasm_rewriter.specs.Rewrites.{IsAccepted, IsRefused, MayBeRefused, config_of}
 
+-- what a module was read from is accepted
+pub is_accepted : {B : Type 0} (config : ModuleConfig) (bytes : List ℕ) (m : Whole B) → IsRead config bytes m → DoesRead config bytes
+is_accepted config bytes m read = let r = read.1.1.reads in (_, (r.short, (_, (_, (r.sections, (r.codes_are, refl))))))
+
 pub unread : (o : Options) (input : List ℕ) (error : ModuleError) → IsRefusal (read_features (config_of o)) input error → IsRefused o input (fault_of error)
 unread o input error refused = inl (record { error = error; refusal = refused; fault_is = refl })
 
--- want of memory may come where the input isn't too long
-pub wanted : (o : Options) (input : List ℕ) → IsShort input → IsRefused o input faults.Memory
-wanted o input short = unread o input errors.Memory (inl (refl, short))
+pub late_may : (error : ModuleError) → MayBeRefused (late_fault error)
+late_may (errors.OutputLimit limit) = tt
+late_may error = tt
 
-pub too_large : (o : Options) (input : List ℕ) (error : ModuleError) → IsAccepted o input → IsRefused o input (late_fault error)
-too_large o input (errors.OutputLimit limit) reads = inr (record { reads = reads; limit = limit; fault_is = refl })
-too_large o input error reads = wanted o input reads.1.0
+pub may_refuse : (o : Options) (input : List ℕ) (fault : Fault) → IsAccepted o input → MayBeRefused fault → IsRefused o input fault
+may_refuse o input faults.Memory reads may = unread o input errors.Memory (inl (refl, reads.1.0))
+may_refuse o input (faults.OutputLimit limit) reads may = inr (record { reads = reads; limit = limit; fault_is = refl })
+may_refuse o input fault reads may = absurd may
 
 -- what stands in the bytes isn't their number
 in_bytes : (t : Trouble) (place : ℕ) → fault_of (refusal t place) ≡ faults.InputTooLong → ⊥
@@ -65,3 +71,24 @@ accepted_told law o input fault (inl u) reads = by_error u.refusal
     by_error (inr (inl h)) = absurd (omega (arith, h.1, reads.1.0))
     by_error (inr (inr f)) = absurd (law (read_features (config_of o)) input reads.0 f.trouble f.place reads.1 f.stops)
 accepted_told law o input fault (inr l) reads = subst (λ (f : Fault). MayBeRefused f) (sym l.fault_is) tt
+
+module _ {T : Type 0} (o : Options) (input : List ℕ) where
+  -- what is said of an input that is refused
+  pub refused_long : (fault : Fault) → IsRefused o input fault → (IsErrOf {T = T} (Err fault) faults.InputTooLong ↔ (2 ^ 30 < length input))
+  refused_long fault refused = (λ e. let is : fault ≡ faults.InputTooLong = cc in long_told o input fault refused is, λ long. ap Err (long_tells o input fault long refused))
+
+  module _ (reads : IsAccepted o input) (r : Result T Fault) where
+    -- and of one that reads
+    pub read_refused : IfErr r (λ fault. MayBeRefused fault) → IfErr r (λ fault. IsRefused o input fault)
+    read_refused may = by_answer r may
+      where
+        by_answer : (r : Result T Fault) → IfErr r (λ fault. MayBeRefused fault) → IfErr r (λ fault. IsRefused o input fault)
+        by_answer (Ok out) h = h
+        by_answer (Err fault) h = may_refuse o input fault reads h
+
+    pub read_long : IfErr r (λ fault. MayBeRefused fault) → (IsErrOf r faults.InputTooLong ↔ (2 ^ 30 < length input))
+    read_long may = by_answer r may
+      where
+        by_answer : (r : Result T Fault) → IfErr r (λ fault. MayBeRefused fault) → (IsErrOf r faults.InputTooLong ↔ (2 ^ 30 < length input))
+        by_answer (Ok out) h = (λ e. absurd cc, λ long. absurd (omega (arith, long, reads.1.0)))
+        by_answer (Err fault) h = refused_long fault (may_refuse o input fault reads h)

@@ -1,7 +1,7 @@
 // Rewriting a module, from bytes to bytes.
-ghost use Rattle.std.specs.Prelude.{◌≡◌, ◌<◌, ◌≤◌, ◌^◌, ◌↔◌, length, IfErr, IfOk, IfSome, IsErrOf, vec_items, vec_len};
+ghost use Rattle.std.specs.Prelude.{◌≡◌, ◌<◌, ◌≤◌, ◌^◌, ◌↔◌, length, IfErr, IfOk, IfSome, IsErrOf, OnOk, vec_items, vec_len};
 ghost use Rattle.std.specs.Option.{is_some, option_map};
-ghost use Rattle.wasm_rewriter.specs.Rewrites.{IsAccepted, IsRefused, IsRewritten, MayBeRefused, config_of as flags_of};
+ghost use Rattle.wasm_rewriter.specs.Rewrites.{IsAccepted, IsRefused, IsRewritten, IsUnread, MayBeRefused, config_of as flags_of};
 
 use crate::faults::{fault_of, late_fault};
 use crate::none::NoSection;
@@ -10,7 +10,6 @@ use rewriter_devices::MAX_INPUT_LEN;
 use std::alloc::{AllocError, Global};
 use walrus_config::ModuleConfig;
 use walrus_emit::{Emitted, emit_sound};
-use walrus_errors::ModuleError;
 use walrus_module::Module;
 use walrus_parse::Parse;
 use walrus_passes::gc;
@@ -57,21 +56,37 @@ fn config_of(options: &Options) -> ModuleConfig
     config
 }
 
+// The module that the bytes spell.
+#[tactic(auto, using(crate::proofs::RefusalLemmas::is_accepted))]
+fn read(alloc: Global, bytes: &[u8], options: &Options) -> Result<Module<NoSection>, Fault>
+    ensures read { OnOk result (IsAccepted options.now bytes.now) }
+    ensures refused { IfErr result (λ fault. IsUnread options.now bytes.now fault) }
+{
+    match config_of(options).parse(alloc, bytes) {
+        Ok(input) => Ok(input),
+        Err(error) => Err(fault_of(error)),
+    }
+}
+
 // Drops of the module what isn't kept, and writes the rest.
-fn write_kept(
-    alloc: Global,
-    input: &mut Module<NoSection>,
-) -> Result<Emitted, ModuleError> {
-    gc::run(alloc, input)?;
-    emit_sound(alloc, input)
+fn write_kept(alloc: Global, input: &mut Module<NoSection>) -> Result<Emitted, Fault>
+    ensures { IfErr result (λ fault. MayBeRefused fault) }
+{
+    if let Err(error) = gc::run(alloc, input) {
+        return Err(late_fault(error));
+    }
+    match emit_sound(alloc, input) {
+        Ok(emitted) => Ok(emitted),
+        Err(error) => Err(late_fault(error)),
+    }
 }
 
 // What was written, with the pairs of places where they are asked for. Each pair has a byte of its own in a file that is no longer than
 // an input may be, so that more pairs never come.
 fn with_places(emitted: Emitted, places: bool) -> Result<Rewritten, Fault>
-    ensures asked { IfOk result (λ out. is_some out.places ≡ places) }
+    ensures asked { IfOk result (λ out. is_some (option_map vec_items out.places) ≡ places) }
     ensures few { IfOk result (λ out. IfSome out.places (λ pairs. vec_len pairs ≤ 2 ^ 30)) }
-    ensures refused { IfErr result (λ fault. fault ≡ Fault.Memory) }
+    ensures refused { IfErr result (λ fault. MayBeRefused fault) }
 {
     if emitted.locations.len() > MAX_INPUT_LEN {
         return Err(Fault::Memory);
@@ -102,12 +117,7 @@ pub fn rewrite(alloc: Global, bytes: &[u8], options: &Options) -> Result<Rewritt
     ensures few { IfOk result (λ out. IfSome out.places (λ places. vec_len places ≤ 2 ^ 30)) }
 {
     read_dont_stop();
-    let mut input: Module<NoSection> = match config_of(options).parse(alloc, bytes) {
-        Ok(input) => input,
-        Err(error) => return Err(fault_of(error)),
-    };
-    match write_kept(alloc, &mut input) {
-        Ok(emitted) => with_places(emitted, options.places),
-        Err(error) => Err(late_fault(error)),
-    }
+    let mut input = read(alloc, bytes, options)?;
+    let emitted = write_kept(alloc, &mut input)?;
+    with_places(emitted, options.places)
 }

@@ -1,0 +1,35 @@
+use Rattle.std.proofs.Common.{inl}
+use Rattle.std.proofs.lemmas.Result.{err_from_is_err_and}
+use Rattle.wasm_rewriter.proofs.RefusalLemmas.{accepted_told, may_refuse, read_long, read_refused, refused_long}
+use Rattle.wasm_rewriter.proofs.rewriting.rewrite.Goals as goal
+
+pub returns-in_err-input-clause-refused : goal.returns-in_err-input-clause-refused
+returns-in_err-input-clause-refused c =
+    let p = err_from_is_err_and c.from_residual.result c.from_residual.ensures.1 in
+    rw (p.1, p.2) (inl c.in_err-input.ensures.refused)
+
+pub returns-in_err-input-clause-too_long : goal.returns-in_err-input-clause-too_long
+returns-in_err-input-clause-too_long c =
+    let p = err_from_is_err_and c.from_residual.result c.from_residual.ensures.1 in
+    rw (p.1, p.2) (refused_long c.args.options.now c.args.bytes.now _ (inl c.in_err-input.ensures.refused))
+
+pub returns-in_err-input-clause-accepted : goal.returns-in_err-input-clause-accepted
+returns-in_err-input-clause-accepted c =
+    let p = err_from_is_err_and c.from_residual.result c.from_residual.ensures.1 in
+    rw (p.1, p.2) (accepted_told c.read_dont_stop.ensures c.args.options.now c.args.bytes.now _ (inl c.in_err-input.ensures.refused))
+
+pub returns-in_err-emitted-clause-refused : goal.returns-in_err-emitted-clause-refused
+returns-in_err-emitted-clause-refused c =
+    let p = err_from_is_err_and c.from_residual-in_err-emitted.result c.from_residual-in_err-emitted.ensures.1 in
+    rw (p.1, p.2) (may_refuse c.args.options.now c.args.bytes.now _ c.in_ok-input.ensures.read c.in_err-emitted.ensures)
+
+pub returns-in_err-emitted-clause-too_long : goal.returns-in_err-emitted-clause-too_long
+returns-in_err-emitted-clause-too_long c =
+    let p = err_from_is_err_and c.from_residual-in_err-emitted.result c.from_residual-in_err-emitted.ensures.1 in
+    rw (p.1, p.2) (refused_long c.args.options.now c.args.bytes.now _ (may_refuse c.args.options.now c.args.bytes.now _ c.in_ok-input.ensures.read c.in_err-emitted.ensures))
+
+pub returns-clause-refused : goal.returns-clause-refused
+returns-clause-refused c = read_refused c.args.options.now c.args.bytes.now c.in_ok-input.ensures.read c.with_places.result c.with_places.ensures.refused
+
+pub returns-clause-too_long : goal.returns-clause-too_long
+returns-clause-too_long c = read_long c.args.options.now c.args.bytes.now c.in_ok-input.ensures.read c.with_places.result c.with_places.ensures.refused
