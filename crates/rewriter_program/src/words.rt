@@ -11,9 +11,9 @@ use std::rt::Env;
 use std::{env, io};
 use wasm_rewriter::Options;
 
-// Of what offsets and places are counted.
+// Of what offsets and places are counted, and what becomes of object files.
 const AFTER_HELP: &str =
-    "A fault's offset is counted from the start of INPUT, and a place from the function count of the code section, both in bytes and in decimal.";
+    "A fault's offset is counted from the start of INPUT, and a place from the function count of the code section, both in bytes and in decimal.\n\nAn object file (a module with a section `linking` or `reloc.*`) is rewritten, too. These sections are copied as they are: its symbol table then names what is gone.";
 
 /// What the words ask for.
 #[derive(Clone, Copy)]

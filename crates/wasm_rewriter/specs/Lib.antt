@@ -1,6 +1,7 @@
+pub mod Faults
+pub mod Texts
+pub mod Rewrites
 pub mod Run
 pub use Rattle.rewriter_devices.specs.Input
 pub use Rattle.rewriter_devices.specs.Lines
 pub use Rattle.rewriter_devices.specs.Devices
-pub mod Accepts
-pub mod Laws

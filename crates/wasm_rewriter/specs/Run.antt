@@ -1,13 +1,13 @@
 -- What a run reads, writes and answers.
 use Rattle.std.specs.Prelude.{ℕ, ◌≡◌, ◌≤◌, ◌+◌, ◌^◌, List, [], length, take, Bool, true, false, Option, Some, None, Result, Ok, Err}
 use Rattle.std.specs.Io.KnownBytes.{Appends, Consumes}
-use Rattle.wasm_model.specs.declared.options.Options.{Options}
-use Rattle.wasm_model.specs.declared.fault.Fault.{Fault}
-use Rattle.wasm_model.specs.declared.fault.Fault.TheVariants as faults
-use Rattle.wasm_model.specs.Rewrites.{Rewritten, IsRefused}
 use Rattle.rewriter_devices.specs.Input.{IsInput}
 use Rattle.rewriter_devices.specs.Lines.{lines_of}
+use Rattle.wasm_rewriter.specs.declared.fault.Fault.{Fault}
+use Rattle.wasm_rewriter.specs.declared.fault.Fault.TheVariants as faults
+use Rattle.wasm_rewriter.specs.declared.options.Options.{Options}
 use Rattle.wasm_rewriter.specs.declared.running.Summary.{Summary}
+use Rattle.wasm_rewriter.specs.Rewrites.{IsRefused, IsRewritten}
 
 -- the pairs of places that there are
 abbrev pub pairs_of : Option (List (ℕ × ℕ)) → List (ℕ × ℕ)
@@ -53,7 +53,7 @@ pub record RewritesInput (o : Options) (source sink places : Device) (answer : R
   pub bytes : List ℕ
   pub pairs : Option (List (ℕ × ℕ))
   pub is_input : IsInput source.before source.after input
-  pub rewritten : Rewritten o input bytes pairs
+  pub rewritten : IsRewritten o input pairs
   pub written : Writes bytes (pairs_of pairs) sink places answer
 
 -- an input was read, and refused

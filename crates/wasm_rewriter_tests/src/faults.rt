@@ -81,9 +81,8 @@ fn items_forms_and_limits_have_names(rt: HostRuntime) {
         Form::ExactType,
         Form::ContinuationType,
         Form::Select,
-        Form::Later,
     ];
-    let names = b"shared table;shared global;shared type;exact type;continuation type;select;later";
+    let names = b"shared table;shared global;shared type;exact type;continuation type;select";
     assert!(rt; are_shown(rt.alloc(), &forms, names));
     let limits = [
         Limited::Types,

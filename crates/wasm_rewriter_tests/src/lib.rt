@@ -1,8 +1,6 @@
-//! Tests of `wasm_rewriter`, of the crates below it and of its program, against examples that were worked by hand.
+//! Tests of `wasm_rewriter`, of its devices and of its program, against examples that were worked by hand.
 #![tactic(auto)]
 
-#[cfg(test)]
-mod bodies;
 #[cfg(test)]
 mod devices;
 #[cfg(test)]
@@ -10,13 +8,9 @@ mod faults;
 #[cfg(test)]
 mod limits;
 #[cfg(test)]
-mod numbering;
-#[cfg(test)]
 mod pieces;
 #[cfg(test)]
 mod program;
-#[cfg(test)]
-mod reading;
 #[cfg(test)]
 mod refusing;
 #[cfg(test)]

@@ -1,11 +1,8 @@
 //! All rows.
-use crate::numbering::is_numbered;
 use crate::pieces::with_places;
-use crate::refusing::{is_measured, is_refused_body, is_refused_module, refused_prefixes};
+use crate::refusing::is_refused;
 use crate::rewriting::{is_rewritten, is_rewritten_once};
-use crate::rows::{
-    MEASURED, NUMBERED, PREFIXES, REFUSED, REWRITTEN, WITH_PRODUCERS, WITHOUT_PLACES, WRONG_BODIES,
-};
+use crate::rows::{REFUSED, REWRITTEN, WITH_PRODUCERS, WITHOUT_PLACES};
 use crate::words::cut;
 use std::alloc::Global;
 use wasm_rewriter::Options;
@@ -17,10 +14,6 @@ enum Rows {
     WithProducers,
     WithoutPlaces,
     Refused,
-    Prefixes,
-    Measured,
-    WrongBodies,
-    Numbered,
 }
 
 fn text(rows: Rows) -> &'static str {
@@ -29,10 +22,6 @@ fn text(rows: Rows) -> &'static str {
         Rows::WithProducers => WITH_PRODUCERS,
         Rows::WithoutPlaces => WITHOUT_PLACES,
         Rows::Refused => REFUSED,
-        Rows::Prefixes => PREFIXES,
-        Rows::Measured => MEASURED,
-        Rows::WrongBodies => WRONG_BODIES,
-        Rows::Numbered => NUMBERED,
     }
 }
 
@@ -46,35 +35,26 @@ fn options(rows: Rows) -> Options {
     options
 }
 
-fn once(stands: bool) -> Option<u32> {
-    if stands { Some(1) } else { None }
-}
-
-// How many modules or bodies a row has, if all stand.
-fn stands(alloc: Global, rows: Rows, row: &[u8]) -> Option<u32> {
+// Whether a row stands.
+fn stands(alloc: Global, rows: Rows, row: &[u8]) -> bool {
     match rows {
-        Rows::Rewritten => once(is_rewritten_once(alloc, row)),
-        Rows::WithProducers | Rows::WithoutPlaces => {
-            once(is_rewritten(alloc, &options(rows), row))
-        }
-        Rows::Refused => once(is_refused_module(alloc, row)),
-        Rows::Prefixes => refused_prefixes(alloc, row),
-        Rows::Measured => once(is_measured(row)),
-        Rows::WrongBodies => once(is_refused_body(alloc, row)),
-        Rows::Numbered => once(is_numbered(alloc, row)),
+        Rows::Rewritten => is_rewritten_once(alloc, row),
+        Rows::WithProducers | Rows::WithoutPlaces => is_rewritten(alloc, &options(rows), row),
+        Rows::Refused => is_refused(alloc, row),
     }
 }
 
+// How many rows there are, if all stand.
 fn stand(alloc: Global, rows: Rows) -> Option<u32> {
     let text = text(rows).as_bytes();
     let mut rest = text;
     let mut sum = 0u32;
     for _ in 0..text.len() {
         let (row, next) = cut(rest, b'\n');
-        match stands(alloc, rows, row) {
-            Some(count) => sum = sum.saturating_add(count),
-            None => return None,
+        if !stands(alloc, rows, row) {
+            return None;
         }
+        sum = sum.saturating_add(1);
         if next.is_empty() {
             return Some(sum);
         }
@@ -83,16 +63,12 @@ fn stand(alloc: Global, rows: Rows) -> Option<u32> {
     None
 }
 
-// With how many modules or bodies there are.
-const ALL: [(&str, Rows, u32); 8] = [
+// With how many rows there are.
+const ALL: [(&str, Rows, u32); 4] = [
     ("modules are rewritten", Rows::Rewritten, 13),
     ("producers are told", Rows::WithProducers, 1),
     ("places are given", Rows::WithoutPlaces, 1),
-    ("modules are refused", Rows::Refused, 28),
-    ("prefixes are refused", Rows::Prefixes, 30),
-    ("bodies are measured", Rows::Measured, 5),
-    ("bodies are refused", Rows::WrongBodies, 9),
-    ("modules are numbered", Rows::Numbered, 1),
+    ("modules are refused", Rows::Refused, 41),
 ];
 
 #[test]

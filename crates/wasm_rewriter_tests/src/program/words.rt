@@ -148,6 +148,7 @@ fn help_is_told(rt: HostRuntime) {
         "Keeps of a WebAssembly module what its exports and its start function need, in the shortest spelling\n\nUsage: wasm_rewriter [OPTIONS] <INPUT> <OUTPUT>\n",
         "it is replaced once INPUT was accepted and all is written",
         "A fault's offset is counted from the start of INPUT, and a place from the function count of the code section, both in bytes and in decimal.\n",
+        "\n\nAn object file (a module with a section `linking` or `reloc.*`) is rewritten, too. These sections are copied as they are: its symbol table then names what is gone.\n",
     ];
     for part in parts {
         assert!(rt; helps(rt.alloc(), part));

@@ -1,6 +1,0 @@
-use Rattle.reading_laws.proofs.dangling_start_stops.Goals as goal
-use Rattle.reading_laws.specs.Worked.{dangling_start_stops}
-
--- src/lib.rt
-pub returns : goal.returns
-returns c = dangling_start_stops

@@ -1,2 +1,0 @@
-//! Laws of what the rewriter writes.
-#![tactic(auto)]

@@ -1,4 +1,0 @@
-pub mod Marks
-pub mod Orders
-pub mod Types
-pub mod Ranges

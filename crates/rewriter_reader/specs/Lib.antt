@@ -1,4 +1,0 @@
-pub mod Seen
-pub mod Checked
-pub mod IsStop
-pub mod Opened

@@ -1,3 +1,0 @@
-pub mod Premises
-pub mod Codes
-pub mod Causes

@@ -1,4 +1,0 @@
-pub mod Same
-pub mod Ends
-pub mod Laws
-pub mod Worked
