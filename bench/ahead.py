@@ -28,7 +28,7 @@ def main():
             built.add(it.name)
     sources = [it for it in below if it.name not in built]
     print("as sources:", *[it.name for it in sources], file=sys.stderr)
-    words = ["--crate-name", crate.name, "src/lib.rt"]
+    words = ["--crate-name", crate.name, f"src/{'main' if crate.is_program else 'lib'}.rt"]
     for name in sorted({"core", *crate.of_kit, *[name for it in sources for name in it.of_kit]}):
         words += ["--extern", f"{name}={rtlib.KIT}/rlibs/{name}.rlib"]
     words += ["-L", f"dependency={rtlib.KIT}/rlibs"]
