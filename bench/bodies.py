@@ -23,9 +23,9 @@ import tempfile
 sys.path.insert(0, os.path.dirname(os.path.abspath(__file__)))
 from compare import LARGE_PAGES, back  # noqa: E402
 from operators import signed, unsigned  # noqa: E402
+from unproved import benchmark  # noqa: E402
 
 ROOT = os.path.dirname(os.path.dirname(os.path.abspath(__file__)))
-CRATE = f"{ROOT}/crates/walrus_bench"
 # runs a program and tells its processor time in microseconds and its peak in kilobytes: a child of this small process, since the peak of
 # one that a greater process starts is that of both
 RUNNER = r"""
@@ -156,10 +156,7 @@ def main():
         with open(f"{runner}.c", "w", encoding="utf-8") as it:
             it.write(RUNNER)
         subprocess.run(["gcc", "-O2", "-o", runner, f"{runner}.c"], check=True)
-        # proved and built anew where its sources are newer
-        print("building walrus_bench", file=sys.stderr)
-        subprocess.run(["rt", "run", "--", "body", "data/body", "both"], cwd=CRATE, check=True, stdout=subprocess.DEVNULL, stderr=subprocess.DEVNULL)
-        ours, file, code = f"{CRATE}/out/walrus_bench", f"{folder}/body", f"{folder}/code"
+        ours, file, code = benchmark(), f"{folder}/body", f"{folder}/code"
         first = {}
         for what, count, some_locals, depth in SHAPES:
             if asked.only not in what:

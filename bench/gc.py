@@ -17,10 +17,8 @@ import subprocess
 import sys
 
 from compare import LARGE_PAGES
+from unproved import benchmark
 
-ROOT = os.path.dirname(os.path.dirname(os.path.abspath(__file__)))
-CRATE = f"{ROOT}/crates/walrus_bench"
-PROGRAM = f"{CRATE}/out/walrus_bench"
 SIZES = (10**4, 10**5, 10**6)
 COUNTED = (10**3, 10**4, 10**5)
 SHAPES = ("chain", "cycle", "segments", "groups")
@@ -41,8 +39,8 @@ def line(when, numbers):
     return "{}: {} functions, {} types, {} data segments, {} element segments".format(when, *numbers)
 
 
-def run(settings, shape, count, kept, modules, *front):
-    words = [*front, PROGRAM, "gc", shape, str(count), kept, str(modules)]
+def run(program, settings, shape, count, kept, modules, *front):
+    words = [*front, program, "gc", shape, str(count), kept, str(modules)]
     said = subprocess.run(words, capture_output=True, text=True, check=True, env={**os.environ, **settings})
     wanted = [line("before", counts(shape, count, "all")), line("after", counts(shape, count, kept))]
     if said.stdout.splitlines() != wanted:
@@ -50,18 +48,18 @@ def run(settings, shape, count, kept, modules, *front):
     return said.stderr
 
 
-def least(rounds, settings, shape, kept, alone):
+def least(program, rounds, settings, shape, kept, alone):
     """The least microseconds of the calls on a module at each size."""
     modules = [1 if alone else SIZES[-1] // count for count in SIZES]
-    turns = ([int(run(settings, shape, count, kept, many)) / many for count, many in zip(SIZES, modules)] for _ in range(rounds))
+    turns = ([int(run(program, settings, shape, count, kept, many)) / many for count, many in zip(SIZES, modules)] for _ in range(rounds))
     return [min(times) for times in zip(*turns)]
 
 
-def instructions(shape, kept):
+def instructions(program, shape, kept):
     """The instructions of the whole program at each size."""
     found = []
     for count in COUNTED:
-        said = run({}, shape, count, kept, 1, "valgrind", "--tool=callgrind", "--callgrind-out-file=/dev/null")
+        said = run(program, {}, shape, count, kept, 1, "valgrind", "--tool=callgrind", "--callgrind-out-file=/dev/null")
         found.append(int(re.search(r"Collected : (\d+)", said).group(1)))
     return found
 
@@ -74,15 +72,14 @@ def main():
     parser.add_argument("--small-pages", action="store_true")
     asked = parser.parse_args()
     settings = {} if asked.small_pages else LARGE_PAGES
-    print("building walrus_bench", file=sys.stderr)
-    subprocess.run(["rt", "run", "--", "gc", "chain", "1", "all", "1"], cwd=CRATE, check=True, stdout=subprocess.DEVNULL, stderr=subprocess.DEVNULL)
+    program = benchmark()
     sizes = COUNTED if asked.instructions else SIZES
     what = "Instructions" if asked.instructions else "Nanoseconds"
     print(f"| {what} an item | Kept | " + " | ".join(f"{count:,}" for count in sizes) + " | Factor |")
     print("|---" * (3 + len(sizes)) + "|")
     for shape in SHAPES:
         for kept in KEPT:
-            found = instructions(shape, kept) if asked.instructions else [took * 1000 for took in least(asked.rounds, settings, shape, kept, asked.alone)]
+            found = instructions(program, shape, kept) if asked.instructions else [took * 1000 for took in least(program, asked.rounds, settings, shape, kept, asked.alone)]
             each = [sum_ / count for sum_, count in zip(found, sizes)]
             print(f"| {shape} | {kept} | " + " | ".join(f"{one:.1f}" for one in each) + f" | {each[-1] / each[0]:.2f} |", flush=True)
 

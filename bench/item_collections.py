@@ -6,20 +6,19 @@
 A time is the least of the rounds. In brackets stands what an item takes at that size against the size before, half of it: 1 is linear.
 """
 import argparse
-import os
 import subprocess
 import sys
 
-ROOT = os.path.dirname(os.path.dirname(os.path.abspath(__file__)))
-CRATE = f"{ROOT}/crates/walrus_bench"
+from unproved import benchmark
+
 SIZES = (250_000, 500_000, 1_000_000, 2_000_000)
 
 
-def least(rounds, count):
+def least(program, rounds, count):
     """The least microseconds of adding, of finding and of deleting so many items, by collection."""
     found = {}
     for _ in range(rounds):
-        said = subprocess.run([f"{CRATE}/out/walrus_bench", "collections", str(count)], capture_output=True, text=True, check=True)
+        said = subprocess.run([program, "collections", str(count)], capture_output=True, text=True, check=True)
         for line in said.stdout.splitlines():
             if not line.endswith(f": {count} found, 0 left"):
                 sys.exit(f"wrong counts: {line}")
@@ -34,9 +33,8 @@ def main():
     parser = argparse.ArgumentParser(description="Times the collections of a module.")
     parser.add_argument("--rounds", type=int, default=5)
     asked = parser.parse_args()
-    print("building walrus_bench", file=sys.stderr)
-    subprocess.run(["rt", "run", "--", "collections", "1"], cwd=CRATE, check=True, stdout=subprocess.DEVNULL, stderr=subprocess.DEVNULL)
-    figures = {count: least(asked.rounds, count) for count in SIZES}
+    program = benchmark()
+    figures = {count: least(program, asked.rounds, count) for count in SIZES}
     print("| Nanoseconds an item | " + " | ".join(f"{call}, {count:,}" for call in ("added", "found", "deleted") for count in SIZES) + " |")
     print("|---" * (1 + 3 * len(SIZES)) + "|")
     for name in figures[SIZES[0]]:

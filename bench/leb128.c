@@ -1,5 +1,5 @@
 /* The loop that the reader of numbers is measured against: `numbers BYTES`. It makes the same data as
-   crates/walrus_bench, prints what was read, and on standard error the microseconds that it took. */
+   bench/walrus_bench, prints what was read, and on standard error the microseconds that it took. */
 #include <stdint.h>
 #include <stdio.h>
 #include <stdlib.h>

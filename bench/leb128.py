@@ -11,8 +11,9 @@ import subprocess
 import sys
 import tempfile
 
+from unproved import benchmark
+
 ROOT = os.path.dirname(os.path.dirname(os.path.abspath(__file__)))
-CRATE = f"{ROOT}/crates/walrus_bench"
 
 
 def measured(program, size):
@@ -25,13 +26,11 @@ def main():
     words.add_argument("--size", type=int, default=64 << 20)
     words.add_argument("--rounds", type=int, default=5)
     asked = words.parse_args()
+    program = benchmark()
     with tempfile.TemporaryDirectory() as folder:
         loop = f"{folder}/numbers"
         subprocess.run(["gcc", "-O2", "-o", loop, f"{ROOT}/bench/leb128.c"], check=True)
-        # proved and built anew where its sources are newer
-        print("building walrus_bench", file=sys.stderr)
-        subprocess.run(["rt", "run", "--", "numbers", "16"], cwd=CRATE, check=True, stdout=subprocess.DEVNULL, stderr=subprocess.DEVNULL)
-        rounds = [(measured([f"{CRATE}/out/walrus_bench", "numbers"], asked.size), measured([loop], asked.size)) for _ in range(asked.rounds)]
+        rounds = [(measured([program, "numbers"], asked.size), measured([loop], asked.size)) for _ in range(asked.rounds)]
     if any(ours[1] != theirs[1] for ours, theirs in rounds):
         sys.exit("the two don't read the same")
     ours, theirs = min(r[0][0] for r in rounds), min(r[1][0] for r in rounds)

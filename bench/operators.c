@@ -1,5 +1,5 @@
 /* The loop that the reader of operators is measured against: `operators FILE WAY`. It reads the operators of a file one
-   by one into a struct, as crates/walrus_bench does, or reads and writes them again, and prints what it saw. It knows the
+   by one into a struct, as bench/walrus_bench does, or reads and writes them again, and prints what it saw. It knows the
    forms of immediates that bench/operators.py makes. */
 #include <stdint.h>
 #include <stdio.h>

@@ -16,9 +16,9 @@ import subprocess
 import sys
 import tempfile
 
+from unproved import benchmark
+
 ROOT = os.path.dirname(os.path.dirname(os.path.abspath(__file__)))
-CRATE = f"{ROOT}/crates/walrus_bench"
-OURS = [f"{CRATE}/out/walrus_bench", "operators"]
 
 # loaded in front of the C library, it counts the calls for memory
 COUNTER = r"""
@@ -108,8 +108,8 @@ def measured(program, file, way):
     return resource.getrusage(resource.RUSAGE_CHILDREN).ru_utime - before, done.stdout
 
 
-def calls(counter, file, way):
-    done = subprocess.run([*OURS, file, way], capture_output=True, text=True, check=True, env={**os.environ, "LD_PRELOAD": counter})
+def calls(counter, ours, file, way):
+    done = subprocess.run([*ours, file, way], capture_output=True, text=True, check=True, env={**os.environ, "LD_PRELOAD": counter})
     return int(done.stderr.split("calls ")[1])
 
 
@@ -129,17 +129,15 @@ def main():
         with open(f"{folder}/counter.c", "w", encoding="utf-8") as it:
             it.write(COUNTER)
         subprocess.run(["gcc", "-O2", "-shared", "-fPIC", "-o", f"{folder}/counter.so", f"{folder}/counter.c", "-ldl"], check=True)
-        # proved and built anew where its sources are newer
-        print("building walrus_bench", file=sys.stderr)
-        subprocess.run(["rt", "run", "--", "operators", "data/code", "read"], cwd=CRATE, check=True, stdout=subprocess.DEVNULL, stderr=subprocess.DEVNULL)
+        program = [benchmark(), "operators"]
         for way in ("read", "write"):
-            rounds = [(measured(OURS, file, way), measured([loop], file, way)) for _ in range(asked.rounds)]
+            rounds = [(measured(program, file, way), measured([loop], file, way)) for _ in range(asked.rounds)]
             if any(ours[1] != theirs[1] for ours, theirs in rounds):
                 sys.exit(f"the two don't see the same: {rounds[0]}")
             ours, theirs = min(r[0][0] for r in rounds), min(r[1][0] for r in rounds)
             count = int(rounds[0][0][1].split()[0])
             print(f"{way}, {len(code):,} bytes, {count:,} operators: ours {ours:.3f} s, {ours * 1e9 / count:.1f} ns each, C {theirs:.3f} s, ratio {ours / theirs:.2f}")
-        made = {way: calls(f"{folder}/counter.so", file, way) for way in ("load", "read", "write")}
+        made = {way: calls(f"{folder}/counter.so", program, file, way) for way in ("load", "read", "write")}
         print(f"calls for memory more than to load the file: reading {made['read'] - made['load']}, writing {made['write'] - made['load']}")
 
 

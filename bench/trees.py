@@ -8,12 +8,10 @@ compared with that of 1,000,000 instructions in one sequence. A list that pushes
 48 bytes at first; lists without room have memory for just what they hold.
 """
 import argparse
-import os
 import subprocess
-import sys
 
-ROOT = os.path.dirname(os.path.dirname(os.path.abspath(__file__)))
-CRATE = f"{ROOT}/crates/walrus_bench"
+from unproved import benchmark
+
 # what is timed, how many blocks, how many instructions in each and in the body, where the blocks stand, and the room of their lists
 SHAPES = (
     ("1,000,000 instructions in one sequence", 0, 10**6, "flat", "some"),
@@ -29,11 +27,11 @@ SHAPES = (
 )
 
 
-def least(rounds, *words):
+def least(program, rounds, *words):
     """The microseconds of the shortest test, and the count of instructions."""
     runs = []
     for _ in range(rounds):
-        said = subprocess.run([f"{CRATE}/out/walrus_bench", "tree", *map(str, words)], capture_output=True, text=True, check=True)
+        said = subprocess.run([program, "tree", *map(str, words)], capture_output=True, text=True, check=True)
         runs.append((int(said.stderr), int(said.stdout.split()[0])))
     return min(runs)
 
@@ -42,11 +40,10 @@ def main():
     parser = argparse.ArgumentParser(description="Times the test of trees.")
     parser.add_argument("--rounds", type=int, default=5)
     asked = parser.parse_args()
-    print("building walrus_bench", file=sys.stderr)
-    subprocess.run(["rt", "run", "--", "tree", "1", "1", "flat", "some"], cwd=CRATE, check=True, stdout=subprocess.DEVNULL, stderr=subprocess.DEVNULL)
+    program = benchmark()
     first = None
     for what, *words in SHAPES:
-        took, count = least(asked.rounds, *words)
+        took, count = least(program, asked.rounds, *words)
         each = took * 1000 / count
         first = first or each
         print(f"{what}: {took / 1000:.1f} ms, {each:.1f} ns an instruction, {each / first:.2f} times the first")

@@ -8,34 +8,30 @@ A time is the processor's, of a whole run of `walrus_bench types`, the least of 
 takes is taken off that of the look-ups.
 """
 import argparse
-import os
 import resource
 import subprocess
-import sys
 
-ROOT = os.path.dirname(os.path.dirname(os.path.abspath(__file__)))
-CRATE = f"{ROOT}/crates/walrus_bench"
+from unproved import benchmark
 
 
-def run(counts):
+
+def run(program, counts):
     """The seconds of the processor that one run takes."""
     before = resource.getrusage(resource.RUSAGE_CHILDREN)
-    subprocess.run([f"{CRATE}/out/walrus_bench", "types", *map(str, counts)], stdout=subprocess.DEVNULL, check=True)
+    subprocess.run([program, "types", *map(str, counts)], stdout=subprocess.DEVNULL, check=True)
     after = resource.getrusage(resource.RUSAGE_CHILDREN)
     return after.ru_utime - before.ru_utime + after.ru_stime - before.ru_stime
 
 
-def least(rounds, counts):
-    return min(run(counts) for _ in range(rounds))
+def least(program, rounds, counts):
+    return min(run(program, counts) for _ in range(rounds))
 
 
 def main():
     words = argparse.ArgumentParser(description="Times the table of types.")
     words.add_argument("--rounds", type=int, default=3)
     asked = words.parse_args()
-    # proved and built anew where its sources are newer
-    print("building walrus_bench", file=sys.stderr)
-    subprocess.run(["rt", "run", "--", "types", "16", "16", "16", "16", "16"], cwd=CRATE, check=True, stdout=subprocess.DEVNULL, stderr=subprocess.DEVNULL)
+    program = benchmark()
     # what is timed, and its sizes: the program's words for a size, those of what is taken off, how many it does
     searches = 10**6
     parts = (
@@ -48,7 +44,7 @@ def main():
     for what, sizes, counts, off, times in parts:
         before = None
         for size in sizes:
-            took = least(asked.rounds, counts(size)) - (least(asked.rounds, off(size)) if off else 0)
+            took = least(program, asked.rounds, counts(size)) - (least(program, asked.rounds, off(size)) if off else 0)
             growth = f", {took / before[1]:.2f} times that of {before[0]:,}" if before else ""
             print(f"{size:,} {what}: {took:.3f} s, {took * 1e6 / times(size):.2f} microseconds each{growth}")
             before = (size, took)

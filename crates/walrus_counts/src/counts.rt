@@ -82,12 +82,8 @@ fn operator_count(alloc: Global, functions: &ModuleFunctions) -> Result<u64>
     Ok(count)
 }
 
-/// How many items of each kind live in the module, if its bodies have so many operators.
-///
-/// # Errors
-///
-/// Want of memory alone.
-pub fn count_items<B>(module: &Module<B>, operators: u64) -> Result<Counts>
+// How many items of each kind live in the module, if its bodies have so many operators.
+fn count_items<B>(module: &Module<B>, operators: u64) -> Result<Counts>
     ensures counted { IfOk result (AreCountsWith operators (parts module.now)) }
     ensures refused { IfErr result (λ e. e ≡ Memory) }
 {

@@ -3,4 +3,4 @@
 
 mod counts;
 
-pub use counts::{count, count_items};
+pub use counts::count;

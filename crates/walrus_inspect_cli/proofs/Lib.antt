@@ -1,3 +1,1 @@
 mod Telling
-mod Trees
-mod Bytes

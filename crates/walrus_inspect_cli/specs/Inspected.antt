@@ -1,17 +1,17 @@
--- What is told of the bytes of a module, or why they are refused.
+-- What is told of the bytes of a module, or why nothing is.
 use Rattle.std.specs.Prelude.{ℕ, Bool, true, false, ◌⊎◌, List, [], Result, Ok, Err}
 use Rattle.inspect_program.specs.inspect_lines.declared.counts.Counts.{Counts}
 use Rattle.inspect_program.specs.walrus_config.declared.config.ModuleConfig.{ModuleConfig}
 use Rattle.inspect_program.specs.walrus_errors.declared.error.ModuleError.{ModuleError}
-use Rattle.walrus_counted_files.specs.walrus_counts.Counts.{AreCounts, HaveNoTree, IsCause}
-use Rattle.walrus_counted_files.specs.walrus_counts.walrus_module.Parts.{Module, parts}
-use Rattle.walrus_counted_files.specs.walrus_counts.walrus_module.walrus_collections.LookUps.{items}
-use Rattle.walrus_counted_files.specs.walrus_counts.walrus_module.declared.module.Module.{Module as Whole}
+use Rattle.walrus_counts.specs.Counts.{AreCounts, HaveNoTree, IsCause}
+use Rattle.walrus_counts.specs.walrus_module.Parts.{Module, parts}
+use Rattle.walrus_counts.specs.walrus_module.walrus_collections.LookUps.{items}
+use Rattle.walrus_counts.specs.walrus_module.declared.module.Module.{Module as Whole}
 use Rattle.walrus_inspect_cli.specs.declared.none.NoSection.{NoSection}
-use Rattle.walrus_parsed_inexact.specs.walrus_parsed_linked.walrus_parsed_items.walrus_parse.Parsed.{IsRead, read_features}
-use Rattle.walrus_parsed_inexact.specs.walrus_parsed_linked.walrus_parsed_items.walrus_parse.Refusals.{IsRefusal}
-use Rattle.walrus_parsed_inexact.specs.walrus_passes_laws.walrus_passes.Part.{IsKeptPart}
-use Rattle.walrus_parsed_inexact.specs.walrus_passes_laws.walrus_passes.walrus_refusals.Sound.{IsRefused}
+use Rattle.walrus_parse.specs.Parsed.{IsRead, read_features}
+use Rattle.walrus_parse.specs.Refusals.{IsRefusal}
+use Rattle.walrus_passes.specs.Part.{IsKeptPart}
+use Rattle.walrus_passes.specs.walrus_refusals.Sound.{IsRefused}
 
 -- the part of a module that is kept, where no custom section pushes anything, has these counts
 abbrev pub AreKeptCounts : Module → Counts → Type 0
@@ -31,7 +31,8 @@ abbrev pub IsUntold : Bool → Module → ModuleError → Type 0
 IsUntold false m e = IsUncounted m e
 IsUntold true m e = IsRefused m [] e ⊎ ((n : Module) × IsKeptPart m [] n × IsUncounted n e)
 
--- the counts are those of a module that is read from the bytes, or of its kept part; or the bytes are refused: no module that is read is
+-- the counts are those of a module that is read from the bytes, or of its kept part; or the bytes are refused, or nothing is told of the module
+-- that is read from them (for want of memory alone, by `ReadModulesPass` and `ReadModulesAreLinked`, laws on which the program doesn't stand)
 abbrev pub Inspects : List ℕ → ModuleConfig → Bool → Result Counts ModuleError → Type 0
 Inspects bytes config kept (Ok c) = (m : Whole NoSection) × IsRead config bytes m × AreTold kept (parts m) c
-Inspects bytes config kept (Err e) = IsRefusal (read_features config) bytes e
+Inspects bytes config kept (Err e) = IsRefusal (read_features config) bytes e ⊎ ((m : Whole NoSection) × IsRead config bytes m × IsUntold kept (parts m) e)

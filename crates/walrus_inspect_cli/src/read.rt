@@ -1,8 +1,8 @@
 //! A file becomes a module, and its items are counted.
 
 ghost use Rattle.std.specs.Prelude.{◌≡◌, IfErr, IfOk, false, true};
-ghost use Rattle.walrus_counted_files.specs.walrus_counts.Counts.{AreCounts};
-ghost use Rattle.walrus_counted_files.specs.walrus_counts.walrus_module.Parts.{parts};
+ghost use Rattle.walrus_counts.specs.Counts.{AreCounts};
+ghost use Rattle.walrus_counts.specs.walrus_module.Parts.{parts};
 ghost use Rattle.walrus_inspect_cli.specs.Inspected.{AreKeptCounts, Inspects, IsUncounted, IsUntold};
 
 use crate::none::NoSection;
@@ -12,14 +12,10 @@ use inspect_program::errors::Result;
 use inspect_program::lines::Counts;
 use std::alloc::Global;
 use std::mem;
-use walrus_counted_files::count_file;
-use walrus_counted_files::counts::count;
-use walrus_counted_files::parse::parse_into;
-use walrus_parsed_inexact::laws::modules_that_are_read_pass;
-use walrus_parsed_inexact::module::Module;
-use walrus_parsed_inexact::parsed_linked::laws::modules_that_are_read_are_linked;
-use walrus_parsed_inexact::passes::gc;
-use walrus_parsed_inexact::passes_laws::gc_keeps_linked;
+use walrus_counts::count;
+use walrus_parse::module::Module;
+use walrus_parse::parse_into;
+use walrus_passes::gc;
 
 /// Counts the items of modules.
 #[derive(Clone, Copy)]
@@ -35,24 +31,10 @@ impl Inspector for Modules {
         config: ModuleConfig,
         kept: bool,
     ) -> Result<Counts> {
-        // Synthetic names are those of functions with bodies.
-        if kept || config.generate_synthetic_names_for_anonymous_items {
-            return count_whole(alloc, bytes, config, kept);
-        }
-        count_file::<NoSection>(alloc, &config, bytes)
+        let mut module = Module::<NoSection>::with_config(alloc, config);
+        parse_into(alloc, bytes, &mut module)?;
+        count_in(alloc, module, kept)
     }
-}
-
-// Counts the items of the module that the bytes spell, or just what is kept of it, with all bodies in memory.
-fn count_whole(alloc: Global, bytes: &[u8], config: ModuleConfig, kept: bool) -> Result<Counts>
-    ensures { Inspects bytes.now config kept result }
-{
-    modules_that_are_read_are_linked::<NoSection>();
-    modules_that_are_read_pass::<NoSection>();
-    gc_keeps_linked();
-    let mut module = Module::<NoSection>::with_config(alloc, config);
-    parse_into(alloc, bytes, &mut module)?;
-    count_in(alloc, module, kept)
 }
 
 // Counts the items of what is kept of the module.

@@ -7,11 +7,10 @@ use crate::producers::are_producers;
 use inspect_lines::Counts;
 use std::alloc::{AllocError, Global};
 use walrus_config::ModuleConfig;
-use walrus_counted_files::count_file;
-use walrus_counted_files::counts::count;
-use walrus_counted_files::module::Module;
-use walrus_counted_files::parse::{FromBuffer, Parse};
+use walrus_counts::count;
 use walrus_errors::{ModuleError, Result};
+use walrus_parse::module::Module;
+use walrus_parse::{FromBuffer, Parse};
 
 /// The call that reads a file.
 #[derive(Clone, Copy)]
@@ -103,22 +102,10 @@ fn are_counted(alloc: Global, module: &Module<()>, expected: [u64; 11]) -> bool 
     }
 }
 
-// The counts of a file's items, with one body in memory at a time, under the default flags.
-fn count_alone(alloc: Global, bytes: &[u8]) -> Result<Counts> {
-    count_file::<()>(alloc, &ModuleConfig::new(), bytes)
-}
-
-fn are_counted_alone(alloc: Global, bytes: &[u8], expected: [u64; 11]) -> bool {
-    match count_alone(alloc, bytes) {
-        Ok(found) => listed(&found) == expected,
-        Err(_) => false,
-    }
-}
-
-/// Whether the bytes are a module of so many items, and are counted as one.
+/// Whether the bytes are a module of so many items.
 pub(crate) fn holds(alloc: Global, bytes: &[u8], expected: [u64; 11]) -> bool {
     let read = read_by(alloc, Call::FromBuffer, &ModuleConfig::new(), bytes);
-    has(alloc, read, Ask::Counts(expected)) && are_counted_alone(alloc, bytes, expected)
+    has(alloc, read, Ask::Counts(expected))
 }
 
 /// Why the bytes are refused under these flags, if they are.
@@ -130,13 +117,9 @@ pub(crate) fn fault_under(
     refused(read_by(alloc, Call::Parse, config, bytes))
 }
 
-/// Why the bytes are refused under the default flags, if they are: read as a module, and counted.
+/// Why the bytes are refused under the default flags, if they are.
 pub(crate) fn fault(alloc: Global, bytes: &[u8]) -> Option<ModuleError> {
-    let read = fault_under(alloc, &ModuleConfig::new(), bytes);
-    if refused(count_alone(alloc, bytes)) != read {
-        return None;
-    }
-    read
+    fault_under(alloc, &ModuleConfig::new(), bytes)
 }
 
 /// Whether the bytes are refused by the reader of values, with this text, at this place.

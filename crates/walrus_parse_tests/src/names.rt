@@ -6,7 +6,7 @@ use crate::read::{CUSTOMS, LOCALS, NOP};
 use std::alloc::Global;
 use walrus_arena::UntypedCustomSectionId;
 use walrus_config::ModuleConfig;
-use walrus_counted_files::module::Module;
+use walrus_parse::module::Module;
 
 // The local 0 of the function 0 is x.
 const LOCAL: &[u8] =

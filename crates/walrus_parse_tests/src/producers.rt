@@ -3,7 +3,7 @@ use crate::helpers::{Ask, Call, has, read_by};
 use crate::read::{CUSTOMS, EMPTY};
 use std::alloc::Global;
 use walrus_config::ModuleConfig;
-use walrus_counted_files::module::Module;
+use walrus_parse::module::Module;
 
 /// Whether the producers are these: the field of each, its name and its version.
 pub(crate) fn are_producers(module: &Module<()>, entries: &[[&str; 3]]) -> bool {

@@ -1,7 +1,7 @@
 use Rattle.std.proofs.Common.{refl, inl}
 use Rattle.std.proofs.lemmas.Result.{err_from_is_err_and}
 use Rattle.walrus_arena.specs.Arena.{entries}
-use Rattle.walrus_counted_files.specs.walrus_counts.walrus_module.Parts.{parts}
+use Rattle.walrus_counts.specs.walrus_module.Parts.{parts}
 use Rattle.walrus_inspect_cli.proofs.Telling.{kept_none, nothing, refused_none, told_kept, untold_kept}
 use Rattle.walrus_inspect_cli.proofs.read.count_kept.Goals as goal
 

@@ -1,6 +1,0 @@
-mod CountLemmas
-mod DataLemmas
-mod HeldLemmas
-mod NameLemmas
-mod SlotLemmas
-mod WholeLemmas
