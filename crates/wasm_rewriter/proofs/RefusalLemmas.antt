@@ -47,6 +47,7 @@ long_told o input fault (inl u) is = by_error u.refusal
   where
     told : fault_of u.error ≡ faults.InputTooLong
     told = sym u.fault_is ∙ is
+
     by_error : IsRefusal (read_features (config_of o)) input u.error → 2 ^ 30 < length input
     by_error (inl h) = let bad : faults.Memory ≡ faults.InputTooLong = sym (ap fault_of h.0) ∙ told in absurd cc
     by_error (inr (inl h)) = h.1

@@ -1,5 +1,5 @@
 -- What is said of a rewriting: which inputs are accepted, and why others are refused.
-use Rattle.std.specs.Prelude.{ℕ, ◌≡◌, ◌⊎◌, List, Bool, Option}
+use Rattle.std.specs.Prelude.{ℕ, ◌≡◌, ◌⊎◌, List, Option}
 use Rattle.std.specs.Option.{is_some}
 use Rattle.walrus_config.specs.Config.{default_config}
 use Rattle.walrus_config.specs.declared.config.ModuleConfig.{ModuleConfig}

@@ -106,7 +106,7 @@ fn with_places(emitted: Emitted, places: bool) -> Result<Rewritten, Fault>
 /// # Errors
 ///
 /// `InputTooLong` past 2^30 bytes; else the first fault of the file, at its place; `OutputLimit` where the output would pass a limit; `Memory`
-/// where a growth was refused, in place of what would come later.
+/// where a growth was refused, in place of what would come later, once the length and the header were found right.
 pub fn rewrite(alloc: Global, bytes: &[u8], options: &Options) -> Result<Rewritten, Fault>
     ensures rewritten { IfOk result (λ out. IsRewritten options.now bytes.now (option_map vec_items out.places)) }
     ensures refused { IfErr result (λ fault. IsRefused options.now bytes.now fault) }
