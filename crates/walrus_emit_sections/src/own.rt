@@ -7,7 +7,7 @@ ghost use Rattle.walrus_errors.specs.declared.error.ModuleError.TheVariants.{Mem
 ghost use Rattle.walrus_collections.specs.LookUps.{items};
 ghost use Rattle.walrus_meaning.specs.Meaning.{slots_of};
 ghost use Rattle.walrus_emit_parts.specs.Due.{Due, Writes};
-ghost use Rattle.walrus_emit_sections.specs.Own.{WritesOwn, own_section};
+ghost use Rattle.walrus_emit_sections.specs.Own.{HasAtMost, WritesOwn, own_section};
 
 use walrus_collections::Collection;
 use walrus_emit_parts::{put_front, write_byte};
@@ -77,7 +77,9 @@ fn close(out: &mut Vec<u8>, start: usize, count: u64) -> Result<()>
 /// # Errors
 ///
 /// Want of memory, where they are too many to be counted.
-pub fn live_count<T, S>(all: &Collection<T, S>) -> Result<u64> {
+pub fn live_count<T, S>(all: &Collection<T, S>) -> Result<u64>
+    ensures { MatchResult result (λ count. count ≡ length (items all.now)) (λ e. e ≡ Memory) }
+{
     let mut count: u64 = 0;
     for _ in all.iter() {
         let Some(more) = count.checked_add(1) else {
@@ -93,7 +95,9 @@ pub fn live_count<T, S>(all: &Collection<T, S>) -> Result<u64> {
 /// # Errors
 ///
 /// `OutputLimit` exactly where there are more; want of memory.
-pub fn check_live<T, S>(all: &Collection<T, S>, most: u64, of: Limited) -> Result<()> {
+pub fn check_live<T, S>(all: &Collection<T, S>, most: u64, of: Limited) -> Result<()>
+    ensures { HasAtMost most of (length (items all.now)) result }
+{
     let count = match live_count(all) {
         Ok(count) => count,
         Err(error) => return Err(error),
