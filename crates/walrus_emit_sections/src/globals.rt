@@ -10,7 +10,7 @@ ghost use Rattle.walrus_emit_values.specs.Values.{bit};
 ghost use Rattle.wasm_grammar.specs.Modules as grammar;
 ghost use Rattle.walrus_emit_sections.specs.Items.{global, global_of, global_type, globals};
 
-use crate::own::{OwnEntry, check_live, write_own};
+use crate::own::{OwnEntry, write_limited};
 use walrus_collections::ModuleGlobals;
 use walrus_collections::module_items::{Global, GlobalKind};
 use walrus_emit_parts::write_byte;
@@ -95,11 +95,10 @@ impl<'a> OwnEntry<Global> for Globals<'a> {
 ///
 /// # Errors
 ///
-/// `DeadReference` where something that one names has no number; `Unsupported` of exact types; want of memory. What was there stands
-/// at the front.
+/// `OutputLimit` where more globals live than a reader takes; `DeadReference` where something that one names has no number; `Unsupported`
+/// of exact types; want of memory. What was there stands at the front.
 pub fn emit_globals(out: &mut Vec<u8>, items: &ModuleGlobals, maps: &IdsToIndices) -> Result<()>
     ensures { Writes (globals (number_of (indices maps.now) 0) (slots_of own_global items.now)) out.old.items out.new.items result }
 {
-    put!(check_live(items, MAX, Limited::Globals));
-    write_own(out, 6, &Globals(maps), items)
+    write_limited(out, 6, &Globals(maps), items, MAX, Limited::Globals)
 }

@@ -9,7 +9,7 @@ ghost use Rattle.walrus_emit_parts.specs.Due.{Writes};
 ghost use Rattle.walrus_emit_values.specs.Values.{expr};
 ghost use Rattle.walrus_emit_sections.specs.Items.{table, table_flags, table_of, table_type, tables};
 
-use crate::own::{OwnEntry, check_live, write_own};
+use crate::own::{OwnEntry, write_limited};
 use walrus_collections::ModuleTables;
 use walrus_collections::module_items::Table;
 use walrus_emit_parts::write_bytes;
@@ -52,7 +52,6 @@ fn write_typed(out: &mut Vec<u8>, item: &Table, init: &ConstExpr, maps: &IdsToIn
     write_expr(out, init, maps)
 }
 
-#[tactic(auto, using(walrus_emit_parts::proofs::Lemmas::writes_on, walrus_emit_parts::proofs::Lemmas::refused_front))]
 fn write_init(out: &mut Vec<u8>, item: &Table, init: &ConstExpr, maps: &IdsToIndices) -> Result<()>
     ensures { Writes (table_of (number_of (indices maps.now) 0) (own_table item.now) (Some (own_expr init.now))) out.old.items out.new.items result }
 {
@@ -107,6 +106,5 @@ impl<'a> OwnEntry<Table> for Tables<'a> {
 pub fn emit_tables(out: &mut Vec<u8>, items: &ModuleTables, maps: &IdsToIndices) -> Result<()>
     ensures { Writes (tables (number_of (indices maps.now) 0) (slots_of own_table items.now)) out.old.items out.new.items result }
 {
-    put!(check_live(items, MAX, Limited::Tables));
-    write_own(out, 4, &Tables(maps), items)
+    write_limited(out, 4, &Tables(maps), items, MAX, Limited::Tables)
 }
