@@ -1,5 +1,5 @@
 -- Two words for a heap type that is read are one.
-use Rattle.std.specs.Prelude.{ℕ, ◌≡◌, false, refl}
+use Rattle.std.specs.Prelude.{◌≡◌, false, refl}
 use Rattle.std.proofs.Common.{ap}
 use Rattle.wasm_ref_types.specs.declared.heap.AbstractHeapType.{AbstractHeapType as Written}
 use Rattle.wasm_ref_types.specs.declared.heap.HeapType.TheVariants.{Abstract as WrittenAbstract}

@@ -1,8 +1,6 @@
 -- What can't be written, and what stands behind a byte.
 use Rattle.std.specs.Prelude.{ℕ, ◌≡◌, Option, None, List, [], ◌∷◌, ◌++◌, Result, Ok, Err, refl}
-use Rattle.std.proofs.Common.{ap, sym, subst, inl, inr}
-use Rattle.wasm_operators.proofs.Keeps.{keeps_all}
-use Rattle.wasm_ref_types.specs.declared.index.UnpackedIndex.TheVariants.{Module}
+use Rattle.std.proofs.Common.{sym, subst}
 use Rattle.walrus_forms.specs.declared.value.HeapType.{HeapType}
 use Rattle.walrus_forms.specs.declared.value.HeapType.TheVariants.{Exact}
 use Rattle.wasm_formats.specs.declared.fault.Form.TheVariants.{ExactType}
@@ -11,13 +9,9 @@ use Rattle.wasm_formats.specs.declared.fault.Space.TheVariants as spaces
 use Rattle.wasm_grammar.specs.TypeWords.{heap_from}
 use Rattle.walrus_errors.specs.declared.error.ModuleError.{ModuleError}
 use Rattle.walrus_errors.specs.declared.error.ModuleError.TheVariants.{DeadReference, Unsupported}
-use Rattle.walrus_emit_parts.specs.Due.{Due, lacking, written, Lacks, Refused, Writes}
-use Rattle.walrus_emit_parts.proofs.Lemmas.{refused_front, writes_on}
+use Rattle.walrus_emit_parts.specs.Due.{Due, written, Refused, Writes}
+use Rattle.walrus_emit_parts.proofs.Lemmas.{lacks_it, refused_front, writes_on}
 use Rattle.walrus_emit_values.specs.Values.{heap, index, signed_index}
-
--- it is all that is due
-pub lacks_it : (e : ModuleError) (old new : List ℕ) → new ≡ old → Refused (lacking e) old new e
-lacks_it e old new same = record { keeps = keeps_all old new same; cause = inr (inl (record { front = []; back = []; parts = refl })) }
 
 pub lacks_index : (space : Space) (number : Option ℕ) (old : List ℕ) → number ≡ None → Refused (index space number) old old (DeadReference space)
 lacks_index space number old none =

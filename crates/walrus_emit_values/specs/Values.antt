@@ -1,7 +1,6 @@
 -- What is due for the values that sections are made of, each name by the number that a look-up has for it.
-use Rattle.std.specs.Prelude.{ℕ, ◌+◌, Bool, true, false, pos, List, [], ◌∷◌, ◌++◌, Option, Some, None, map}
+use Rattle.std.specs.Prelude.{ℕ, Bool, true, false, pos, List, [], ◌∷◌, ◌++◌, Option, Some, None}
 use Rattle.std.specs.List.{flat_map}
-use Rattle.std.specs.Option.{is_some}
 use Rattle.wasm_ref_types.specs.declared.heap.HeapType.{HeapType}
 use Rattle.wasm_ref_types.specs.declared.heap.HeapType.TheVariants.{Abstract, Concrete, Exact}
 use Rattle.wasm_ref_types.specs.declared.index.UnpackedIndex.{UnpackedIndex}
@@ -13,13 +12,13 @@ use Rattle.wasm_ref_types.specs.TypeSpellings.{long_byte}
 use Rattle.wasm_formats.specs.declared.fault.Form.TheVariants.{ExactType}
 use Rattle.wasm_formats.specs.declared.fault.Space.{Space}
 use Rattle.wasm_formats.specs.declared.fault.Space.TheVariants as spaces
-use Rattle.wasm_operators.specs.Bytes.{abstract_code, code_bytes, heap_bytes, little_bytes, signed_bytes, unsigned_bytes}
+use Rattle.wasm_operators.specs.Bytes.{code_bytes, heap_bytes, little_bytes, signed_bytes}
 use Rattle.wasm_operators.specs.Items as items
 use Rattle.wasm_operators.specs.Items.{Item, Names, Number, S32, S64, Bits, Byte, Bytes, Heap}
 use Rattle.wasm_operators.specs.Operators.{Seen}
 use Rattle.walrus_errors.specs.declared.error.ModuleError.TheVariants.{ConstExpr, DeadReference, Unsupported}
 use Rattle.walrus_pairing.specs.Looks.{Look}
-use Rattle.walrus_emit_parts.specs.Due.{Due, lacking, number, vec, written}
+use Rattle.walrus_emit_parts.specs.Due.{Due, lacking, number, written}
 use Rattle.wasm_grammar.specs.Modules.{Expr}
 
 -- the word for a space in a refusal

@@ -19,7 +19,6 @@ use wasm_formats::{Form, Space};
 /// # Errors
 ///
 /// `DeadReference` where it has none; want of memory. What was there stands at the front, here and below.
-
 pub fn write_index(out: &mut Vec<u8>, space: Space, number: Option<u32>) -> Result<()>
     ensures { Writes (index space number) out.old.items out.new.items result }
 {
@@ -30,7 +29,6 @@ pub fn write_index(out: &mut Vec<u8>, space: Space, number: Option<u32>) -> Resu
 }
 
 // The same as a signed number.
-
 fn write_signed_index(out: &mut Vec<u8>, number: Option<u32>) -> Result<()>
     ensures { Writes (signed_index number) out.old.items out.new.items result }
 {
@@ -76,7 +74,6 @@ pub fn write_abstract(out: &mut Vec<u8>, ty: AbstractHeapType) -> Result<()>
 /// # Errors
 ///
 /// Want of memory; `DeadReference` of types; `Unsupported` of exact types, here and below.
-
 pub fn write_heap(out: &mut Vec<u8>, ty: HeapType, maps: &IdsToIndices) -> Result<()>
     ensures { Writes (heap (indices maps.now).types.number (heap_from ty)) out.old.items out.new.items result }
 {
