@@ -3,17 +3,18 @@ use Rattle.std.specs.Prelude.{ℕ, zero, suc, ◌+◌, ◌-◌, ◌<◌, ◌≤�
 use Rattle.std.specs.List.{flat_map}
 use Rattle.std.specs.Option.{option_map}
 use Rattle.std.proofs.Common.{ap, sym, ◌∙◌, subst, arith, inl, inr}
-use Rattle.std.proofs.lemmas.List.{append_assoc, append-nil, take-append-drop, take_at, drop_at, length-append}
+use Rattle.std.proofs.lemmas.List.{append_assoc, append-nil, take-append-drop, take_at, drop_at, length-append, length-map}
 use Rattle.wasm_operators.specs.Bytes.{unsigned_bytes}
 use Rattle.walrus_operators.specs.Appended.{Keeps}
 use Rattle.wasm_operators.proofs.Keeps.{keeps_all, keeps_on}
 use Rattle.walrus_arena.specs.Arena.{Arena, entries_from}
 use Rattle.walrus_collections.specs.LookUps.{items}
 use Rattle.walrus_meaning.specs.Meaning.{slots_of}
+use Rattle.wasm_formats.specs.declared.fault.Limited.{Limited}
 use Rattle.walrus_errors.specs.declared.error.ModuleError.{ModuleError}
-use Rattle.walrus_errors.specs.declared.error.ModuleError.TheVariants.{Memory}
-use Rattle.walrus_emit_parts.specs.Due.{Due, IsTooMany, Lacks, Refused, Writes, entries, number, section, sized, vec, written}
-use Rattle.walrus_emit_parts.proofs.Lemmas.{behind_it, grows, nothing, put_before, refused_behind, refused_front, size_is, writes_on, written_both}
+use Rattle.walrus_errors.specs.declared.error.ModuleError.TheVariants.{Memory, OutputLimit}
+use Rattle.walrus_emit_parts.specs.Due.{Due, IsTooMany, Lacks, Refused, Writes, entries, limited, number, section, sized, vec, written}
+use Rattle.walrus_emit_parts.proofs.Lemmas.{behind_it, grows, limit_passed, nothing, put_before, refused_behind, refused_front, size_is, within, writes_on, written_both}
 use Rattle.walrus_emit_sections.specs.Own.{WritesOwn, WroteSome, live, own_section}
 
 module _ {A : Type 0} (is_own : A → Bool) (due : A → Due) where
@@ -69,6 +70,28 @@ live_from {T} {A} see id (Some x ∷ slots) = ap (λ (l : List A). see x ∷ l) 
 
 pub live_is : {T A : Type 0} (see : T → A) (a : Arena T) → map see (items a) ≡ live (slots_of see a)
 live_is see a = live_from see 0 a.slots
+
+-- ---- limits
+
+live_size : {T A : Type 0} (see : T → A) (a : Arena T) → length (live (slots_of see a)) ≡ length (items a)
+live_size {T} {A} see a = ap (λ (l : List A). length l) (sym (live_is see a)) ∙ length-map (items a) see
+
+-- there are no more than so many
+pub live_within : {T A : Type 0} (see : T → A) (a : Arena T) (most : ℕ) (of : Limited) (due : Due) (old new : List ℕ) (result : Result (Unit {0}) ModuleError) → length (items a) ≤ most
+    → Writes due old new result → Writes (limited most (length (live (slots_of see a))) of due) old new result
+live_within see a most of due old new result le h = within most (length (live (slots_of see a))) of due old new result (omega (arith, le, live_size see a)) h
+
+-- there are more, or memory was wanted
+pub live_passed : {T A : Type 0} (see : T → A) (a : Arena T) (most : ℕ) (of : Limited) (due : Due) (old : List ℕ) (e : ModuleError)
+    → (e ≡ Memory) ⊎ ((e ≡ OutputLimit of) × (most < length (items a))) → Refused (limited most (length (live (slots_of see a))) of due) old old e
+live_passed see a most of due old e (inl h) = record { keeps = keeps_all old old refl; cause = inl h }
+live_passed see a most of due old e (inr h) =
+    subst (λ (x : ModuleError). Refused (limited most (length (live (slots_of see a))) of due) old old x) (sym h.0)
+    (limit_passed most (length (live (slots_of see a))) of due old old (omega (arith, h.1, live_size see a)) refl)
+
+-- one more is counted
+pub one_counted : {T : Type 0} (all had left : List T) (x : T) (count more : ℕ) → had ≡ x ∷ left → length all ≡ count + length had → more ≡ count + 1 → length all ≡ more + length left
+one_counted {T} all had left x count more step h one = h ∙ ap (λ (l : List T). count + length l) step ∙ omega (arith, one)
 
 -- ---- sections
 
@@ -164,15 +187,22 @@ module _ {T A : Type 0} (see : T → A) (is_own : A → Bool) (due : A → Due) 
   item_refused had left x old mid new count e step passes h r =
       refused is_own due (map see all) (map see left) (see x) old mid new count e passes (at_item had left x old mid count step h) r
 
-  pub item_written : (had left : List T) (x : T) (old mid new : List ℕ) (count : ℕ) → had ≡ x ∷ left → is_own (see x) ≡ true → Wrote had old mid count → written new ≡ written mid ++ due (see x)
-      → Wrote left old new (count + 1)
-  item_written had left x old mid new count step passes h wrote =
-      goes_on is_own due (map see all) (map see left) (see x) old mid new count passes (at_item had left x old mid count step h) wrote
+  pub item_written : (had left : List T) (x : T) (old mid new : List ℕ) (count more : ℕ) → had ≡ x ∷ left → is_own (see x) ≡ true → Wrote had old mid count → written new ≡ written mid ++ due (see x)
+      → more ≡ count + 1 → Wrote left old new more
+  item_written had left x old mid new count more step passes h wrote one =
+      subst (λ (n : ℕ). Wrote left old new n) (sym one) (goes_on is_own due (map see all) (map see left) (see x) old mid new count passes (at_item had left x old mid count step h) wrote)
 
   pub item_stopped : (had left : List T) (x : T) (old mid new : List ℕ) (count : ℕ) → had ≡ x ∷ left → is_own (see x) ≡ true → Wrote had old mid count → written new ≡ written mid ++ due (see x)
       → Refused (flat_map due (filter is_own (map see all))) old new Memory
   item_stopped had left x old mid new count step passes h wrote =
-      stopped is_own due (map see all) (map see left) old new new (count + 1) (item_written had left x old mid new count step passes h wrote) (keeps_all new new refl)
+      stopped is_own due (map see all) (map see left) old new new (count + 1) (item_written had left x old mid new count (count + 1) step passes h wrote refl) (keeps_all new new refl)
 
   pub item_skipped : (had left : List T) (x : T) (old now : List ℕ) (count : ℕ) → had ≡ x ∷ left → is_own (see x) ≡ false → Wrote had old now count → Wrote left old now count
   item_skipped had left x old now count step fails h = skips is_own due (map see all) (map see left) (see x) old now count fails (at_item had left x old now count step h)
+
+  pub items_begin : (left : List T) (old : List ℕ) → left ≡ all → Wrote left old old 0
+  items_begin left old is = subst (λ (l : List T). Wrote l old old 0) (sym is) (begins is_own due (map see all) old)
+
+  pub items_end : (had : List T) (old now : List ℕ) (count : ℕ) → had ≡ [] → Wrote had old now count
+      → (count ≡ length (filter is_own (map see all))) × (written now ≡ written old ++ flat_map due (filter is_own (map see all)))
+  items_end had old now count none h = ends is_own due (map see all) old now count (subst (λ (l : List T). Wrote l old now count) none h)

@@ -1,7 +1,9 @@
 -- A section whose entries stand for those items of a space that the module has itself.
-use Rattle.std.specs.Prelude.{ℕ, ◌+◌, ◌≡◌, Bool, List, [], ◌∷◌, ◌++◌, length, map, filter, Option, Some, None, Result, MatchResult}
+use Rattle.std.specs.Prelude.{ℕ, ◌+◌, ◌≡◌, ◌≤◌, ◌<◌, ◌⊎◌, Bool, List, [], ◌∷◌, ◌++◌, length, map, filter, Option, Some, None, Result, MatchResult}
 use Rattle.std.specs.List.{flat_map}
+use Rattle.wasm_formats.specs.declared.fault.Limited.{Limited}
 use Rattle.walrus_errors.specs.declared.error.ModuleError.{ModuleError}
+use Rattle.walrus_errors.specs.declared.error.ModuleError.TheVariants.{Memory, OutputLimit}
 use Rattle.walrus_emit_parts.specs.Due.{Due, Refused, entries, written}
 
 -- what lives, by rising number
@@ -13,6 +15,10 @@ live (Some x ∷ slots) = x ∷ live slots
 -- the entries of those that have one
 abbrev pub own_section : {A : Type 0} → ℕ → (A → Bool) → (A → Due) → List (Option A) → Due
 own_section id is_own due slots = entries id due (filter is_own (live slots))
+
+-- there are at most so many of these
+abbrev pub HasAtMost : ℕ → Limited → ℕ → Result (Unit {0}) ModuleError → Type 0
+HasAtMost most of n result = MatchResult result (λ _. n ≤ most) (λ e. (e ≡ Memory) ⊎ ((e ≡ OutputLimit of) × (most < n)))
 
 -- these were written, and are so many
 abbrev pub WritesOwn : {A : Type 0} → (A → Bool) → (A → Due) → List A → List ℕ → List ℕ → Result ℕ ModuleError → Type 0

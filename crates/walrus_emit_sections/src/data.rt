@@ -8,7 +8,7 @@ ghost use Rattle.walrus_meaning.specs.Words.{own_expr};
 ghost use Rattle.walrus_emit_parts.specs.Due.{Writes, number, text};
 ghost use Rattle.walrus_emit_sections.specs.Items.{active, contents, segment, segments};
 
-use crate::own::{OwnEntry, check_live, write_own};
+use crate::own::{OwnEntry, write_limited};
 use walrus_collections::ModuleData;
 use walrus_collections::module_items::{Data, DataKind};
 use walrus_emit_parts::{write_number, write_sized_bytes};
@@ -156,11 +156,10 @@ impl<'a> OwnEntry<Data> for Segments<'a> {
 ///
 /// # Errors
 ///
-/// `DeadReference` where something that one names has no number; `Unsupported` of exact types; want of memory. What was there stands
-/// at the front.
+/// `OutputLimit` where more segments live than a reader takes; `DeadReference` where something that one names has no number;
+/// `Unsupported` of exact types; want of memory. What was there stands at the front.
 pub fn emit_data(out: &mut Vec<u8>, items: &ModuleData, maps: &IdsToIndices) -> Result<()>
     ensures { Writes (segments (number_of (indices maps.now) 0) (slots_of own_segment items.now)) out.old.items out.new.items result }
 {
-    put!(check_live(items, MAX, Limited::Data));
-    write_own(out, 11, &Segments(maps), items)
+    write_limited(out, 11, &Segments(maps), items, MAX, Limited::Data)
 }

@@ -8,7 +8,7 @@ ghost use Rattle.walrus_meaning.specs.Meaning.{own_export, own_given, slots_of};
 ghost use Rattle.walrus_emit_parts.specs.Due.{Writes};
 ghost use Rattle.walrus_emit_sections.specs.Items.{export, exports, kind_index};
 
-use crate::own::{OwnEntry, check_live, write_own};
+use crate::own::{OwnEntry, write_limited};
 use walrus_collections::ModuleExports;
 use walrus_collections::module_items::{Export, ExportItem};
 use walrus_emit_parts::{write_byte, write_name};
@@ -89,10 +89,10 @@ impl<'a> OwnEntry<Export> for Exports<'a> {
 ///
 /// # Errors
 ///
-/// `DeadReference` where an item has no number; want of memory. What was there stands at the front.
+/// `OutputLimit` where more exports live than a reader takes, or a name is longer; `DeadReference` where an item has no number; want of
+/// memory. What was there stands at the front.
 pub fn emit_exports(out: &mut Vec<u8>, items: &ModuleExports, maps: &IdsToIndices) -> Result<()>
     ensures { Writes (exports (number_of (indices maps.now) 0) (slots_of own_export items.now)) out.old.items out.new.items result }
 {
-    put!(check_live(items, MAX, Limited::Exports));
-    write_own(out, 7, &Exports(maps), items)
+    write_limited(out, 7, &Exports(maps), items, MAX, Limited::Exports)
 }

@@ -8,9 +8,9 @@ ghost use Rattle.walrus_meaning.specs.Words.{own_expr};
 ghost use Rattle.walrus_emit_parts.specs.Due.{Writes, written};
 ghost use Rattle.walrus_emit_values.specs.Values.{bit};
 ghost use Rattle.wasm_grammar.specs.Modules as grammar;
-ghost use Rattle.walrus_emit_sections.specs.Items.{global, global_of, globals};
+ghost use Rattle.walrus_emit_sections.specs.Items.{global, global_of, global_type, globals};
 
-use crate::own::{OwnEntry, check_live, write_own};
+use crate::own::{OwnEntry, write_limited};
 use walrus_collections::ModuleGlobals;
 use walrus_collections::module_items::{Global, GlobalKind};
 use walrus_emit_parts::write_byte;
@@ -37,18 +37,20 @@ fn write_mutable(out: &mut Vec<u8>, mutable: bool) -> Result<()>
 ///
 /// # Errors
 ///
-/// `DeadReference` of types; `Unsupported` of exact types; want of memory.
-pub fn write_global_type(out: &mut Vec<u8>, item: &Global, maps: &IdsToIndices) -> Result<()> {
+/// `DeadReference` of types; `Unsupported` of exact types; want of memory. What was there stands at the front.
+#[tactic(auto, using(walrus_emit_parts::proofs::Lemmas::writes_on, walrus_emit_parts::proofs::Lemmas::refused_front))]
+pub fn write_global_type(out: &mut Vec<u8>, item: &Global, maps: &IdsToIndices) -> Result<()>
+    ensures { Writes (global_type (number_of (indices maps.now) 0) (own_global item.now)) out.old.items out.new.items result }
+{
     put!(write_value(out, item.ty, maps));
     write_mutable(out, item.mutable)
 }
 
-#[tactic(auto, using(walrus_emit_parts::proofs::Lemmas::refused_front))]
+#[tactic(auto, using(walrus_emit_parts::proofs::Lemmas::writes_on, walrus_emit_parts::proofs::Lemmas::refused_front))]
 fn write_init(out: &mut Vec<u8>, item: &Global, init: &ConstExpr, maps: &IdsToIndices) -> Result<()>
     ensures { Writes (global_of (number_of (indices maps.now) 0) (own_global item.now) (grammar.Own (own_expr init.now))) out.old.items out.new.items result }
 {
-    put!(write_value(out, item.ty, maps));
-    put!(write_mutable(out, item.mutable));
+    put!(write_global_type(out, item, maps));
     write_expr(out, init, maps)
 }
 
@@ -93,11 +95,10 @@ impl<'a> OwnEntry<Global> for Globals<'a> {
 ///
 /// # Errors
 ///
-/// `DeadReference` where something that one names has no number; `Unsupported` of exact types; want of memory. What was there stands
-/// at the front.
+/// `OutputLimit` where more globals live than a reader takes; `DeadReference` where something that one names has no number; `Unsupported`
+/// of exact types; want of memory. What was there stands at the front.
 pub fn emit_globals(out: &mut Vec<u8>, items: &ModuleGlobals, maps: &IdsToIndices) -> Result<()>
     ensures { Writes (globals (number_of (indices maps.now) 0) (slots_of own_global items.now)) out.old.items out.new.items result }
 {
-    put!(check_live(items, MAX, Limited::Globals));
-    write_own(out, 6, &Globals(maps), items)
+    write_limited(out, 6, &Globals(maps), items, MAX, Limited::Globals)
 }

@@ -23,6 +23,6 @@ pub use data::emit_data;
 pub use exports::emit_exports;
 pub use globals::{emit_globals, write_global_type};
 pub use memories::{emit_memories, write_memory};
-pub use own::{OwnEntry, check_live, live_count, write_own};
+pub use own::{OwnEntry, check_live, live_count, write_limited, write_own};
 pub use tables::{emit_tables, write_table_type};
 pub use tags::{emit_tags, write_tag};

@@ -7,7 +7,7 @@ ghost use Rattle.walrus_emit_parts.specs.Due.{Writes};
 ghost use Rattle.walrus_emit_values.specs.Values.{optional};
 ghost use Rattle.walrus_emit_sections.specs.Items.{memories, memory, memory_flags};
 
-use crate::own::{OwnEntry, check_live, write_own};
+use crate::own::{OwnEntry, write_limited};
 use walrus_collections::ModuleMemories;
 use walrus_collections::module_items::Memory;
 use walrus_emit_parts::write_number;
@@ -43,6 +43,11 @@ fn write_page(out: &mut Vec<u8>, log: Option<u32>) -> Result<()>
     }
 }
 
+/// The type of a memory.
+///
+/// # Errors
+///
+/// Want of memory. What was there stands at the front.
 pub fn write_memory(out: &mut Vec<u8>, item: &Memory) -> Result<()>
     ensures { Writes (memory (own_memory item.now)) out.old.items out.new.items result }
 {
@@ -79,10 +84,9 @@ impl OwnEntry<Memory> for Memories {
 ///
 /// # Errors
 ///
-/// Want of memory. What was there stands at the front.
+/// `OutputLimit` where more memories live than a reader takes; want of memory. What was there stands at the front.
 pub fn emit_memories(out: &mut Vec<u8>, items: &ModuleMemories) -> Result<()>
     ensures { Writes (memories (slots_of own_memory items.now)) out.old.items out.new.items result }
 {
-    put!(check_live(items, MAX, Limited::Memories));
-    write_own(out, 5, &Memories, items)
+    write_limited(out, 5, &Memories, items, MAX, Limited::Memories)
 }

@@ -6,8 +6,8 @@ ghost use Rattle.walrus_operators.specs.Appended.{Keeps};
 ghost use Rattle.walrus_errors.specs.declared.error.ModuleError.TheVariants.{Memory};
 ghost use Rattle.walrus_collections.specs.LookUps.{items};
 ghost use Rattle.walrus_meaning.specs.Meaning.{slots_of};
-ghost use Rattle.walrus_emit_parts.specs.Due.{Due, Writes};
-ghost use Rattle.walrus_emit_sections.specs.Own.{WritesOwn, own_section};
+ghost use Rattle.walrus_emit_parts.specs.Due.{Due, Writes, limited};
+ghost use Rattle.walrus_emit_sections.specs.Own.{HasAtMost, WritesOwn, live, own_section};
 
 use walrus_collections::Collection;
 use walrus_emit_parts::{put_front, write_byte};
@@ -77,7 +77,9 @@ fn close(out: &mut Vec<u8>, start: usize, count: u64) -> Result<()>
 /// # Errors
 ///
 /// Want of memory, where they are too many to be counted.
-pub fn live_count<T, S>(all: &Collection<T, S>) -> Result<u64> {
+pub fn live_count<T, S>(all: &Collection<T, S>) -> Result<u64>
+    ensures { MatchResult result (λ count. count ≡ length (items all.now)) (λ e. e ≡ Memory) }
+{
     let mut count: u64 = 0;
     for _ in all.iter() {
         let Some(more) = count.checked_add(1) else {
@@ -93,7 +95,9 @@ pub fn live_count<T, S>(all: &Collection<T, S>) -> Result<u64> {
 /// # Errors
 ///
 /// `OutputLimit` exactly where there are more; want of memory.
-pub fn check_live<T, S>(all: &Collection<T, S>, most: u64, of: Limited) -> Result<()> {
+pub fn check_live<T, S>(all: &Collection<T, S>, most: u64, of: Limited) -> Result<()>
+    ensures { HasAtMost most of (length (items all.now)) result }
+{
     let count = match live_count(all) {
         Ok(count) => count,
         Err(error) => return Err(error),
@@ -129,4 +133,23 @@ pub fn write_own<T, S, W: OwnEntry<T>>(
         return Ok(());
     }
     close(out, start, count)
+}
+
+/// The same, where no more items live than a reader takes.
+///
+/// # Errors
+///
+/// `OutputLimit` where more live; those of `write_own`. What was there stands at the front.
+pub fn write_limited<T, S, W: OwnEntry<T>>(
+    out: &mut Vec<u8>,
+    id: u8,
+    writer: &W,
+    all: &Collection<T, S>,
+    most: u64,
+    of: Limited,
+) -> Result<()>
+    ensures { Writes (limited most (length (live (slots_of W.see all.now))) of (own_section id W.has_entry (W.due writer.now) (slots_of W.see all.now))) out.old.items out.new.items result }
+{
+    put!(check_live(all, most, of));
+    write_own(out, id, writer, all)
 }

@@ -7,7 +7,7 @@ ghost use Rattle.walrus_meaning.specs.Meaning.{own_tag, slots_of};
 ghost use Rattle.walrus_emit_parts.specs.Due.{Writes};
 ghost use Rattle.walrus_emit_sections.specs.Items.{tag, tags};
 
-use crate::own::{OwnEntry, check_live, write_own};
+use crate::own::{OwnEntry, write_limited};
 use walrus_collections::ModuleTags;
 use walrus_collections::module_items::Tag;
 use walrus_emit_parts::write_byte;
@@ -20,6 +20,11 @@ use wasm_formats::Space;
 // What a reader takes at most.
 const MAX: u64 = 1_000_000;
 
+/// The type of a tag.
+///
+/// # Errors
+///
+/// `DeadReference` where its type has no number; want of memory. What was there stands at the front.
 #[tactic(auto, using(walrus_emit_values::proofs::Lemmas::byte_on))]
 pub fn write_tag(out: &mut Vec<u8>, item: &Tag, maps: &IdsToIndices) -> Result<()>
     ensures { Writes (tag (number_of (indices maps.now) 0) (own_tag item.now)) out.old.items out.new.items result }
@@ -63,10 +68,10 @@ impl<'a> OwnEntry<Tag> for Tags<'a> {
 ///
 /// # Errors
 ///
-/// `DeadReference` where a type has no number; want of memory. What was there stands at the front.
+/// `OutputLimit` where more tags live than a reader takes; `DeadReference` where a type has no number; want of memory. What was there
+/// stands at the front.
 pub fn emit_tags(out: &mut Vec<u8>, items: &ModuleTags, maps: &IdsToIndices) -> Result<()>
     ensures { Writes (tags (number_of (indices maps.now) 0) (slots_of own_tag items.now)) out.old.items out.new.items result }
 {
-    put!(check_live(items, MAX, Limited::Tags));
-    write_own(out, 13, &Tags(maps), items)
+    write_limited(out, 13, &Tags(maps), items, MAX, Limited::Tags)
 }
