@@ -1,5 +1,7 @@
 //! Custom sections (Core Specification, binary format: custom section).
 
+ghost use Rattle.walrus_operators.specs.Appended.{Keeps};
+
 use std::alloc::Global;
 use walrus_arena::UntypedCustomSectionId;
 use walrus_emit_parts::{Part, write_bytes, write_name, write_section as write_part};
@@ -76,13 +78,20 @@ fn stands<B: CustomSection>(
 }
 
 /// The sections that stand first, or the others, by id.
+///
+/// # Errors
+///
+/// `SectionRefused` where a section of a program's own refuses to say what is in it; `OutputLimit` of strings where the name of a section is
+/// longer than a reader takes; want of memory. What was there stands at the front.
 pub fn write_sections<B: CustomSection>(
     alloc: Global,
     out: &mut Vec<u8>,
     sections: &Sections<B>,
     first: bool,
     maps: &IdsToIndices,
-) -> Result<()> {
+) -> Result<()>
+    ensures { Keeps out.old.items out.new.items }
+{
     for id in sections.iter() {
         if stands(sections, id, first) {
             write_section(alloc, out, sections, id, maps)?;

@@ -1,5 +1,8 @@
 //! The names of a module's items, by their numbers.
 
+ghost use Rattle.walrus_operators.specs.Appended.{Keeps};
+ghost use Rattle.walrus_emit_numbers.specs.Order.{AreWithin};
+
 use std::alloc::{AllocError, Global as Allocator};
 use walrus_arena::LocalId;
 use walrus_emit_numbers::BodyFacts;
@@ -243,7 +246,10 @@ pub fn emit_names<B>(
     facts: &[BodyFacts],
     order: &[usize],
     maps: &IdsToIndices,
-) -> Result<()> {
+) -> Result<()>
+    requires { AreWithin facts.now order.now }
+    ensures { Keeps out.old.items out.new.items }
+{
     let names = all_names(alloc, input, types, facts, order, maps)?;
     write_names(out, &names)
 }
