@@ -1,15 +1,16 @@
 -- What is due is written part by part.
-use Rattle.std.specs.Prelude.{ℕ, zero, suc, ◌+◌, ◌-◌, ◌<◌, ◌≤◌, ◌≡◌, ◌^◌, ◌⊎◌, List, [], ◌∷◌, ◌++◌, length, take, drop, map, slice_index_or, Result, Ok, Err, MatchResult, refl}
+use Rattle.std.specs.Prelude.{ℕ, zero, suc, ◌+◌, ◌-◌, ◌<◌, ◌≤◌, ◌≡◌, ◌⊎◌, List, [], ◌∷◌, ◌++◌, length, take, drop, map, slice_index_or, Result, Ok, Err, MatchResult, refl}
 use Rattle.std.specs.List.{flat_map}
-use Rattle.std.proofs.Common.{ap, sym, ◌∙◌, subst, arith, inl, inr}
-use Rattle.std.proofs.lemmas.List.{append_assoc, append-nil, length-append, length-map, map-append, take_at, drop_at, take-map, drop-map, take-append-le, drop-append-le, take-append-drop, length-drop, flat_map_more, take_more, take_all}
+use Rattle.std.proofs.Common.{ap, sym, ◌∙◌, subst, arith, inl, inr, lt-ltb, le-ltb}
+use Rattle.std.proofs.lemmas.List.{append_assoc, append-nil, length-append, length-map, map-append, take_at, drop_at, take-map, drop-map, take-append-le, drop-append-le, take-append-drop, length-drop}
 use Rattle.std.specs.declared.alloc.AllocError.{AllocError}
 use Rattle.wasm_operators.specs.Bytes.{unsigned_bytes}
 use Rattle.walrus_operators.specs.Appended.{Keeps, Appends}
 use Rattle.wasm_operators.proofs.Keeps.{keeps_all, keeps_on}
+use Rattle.wasm_formats.specs.declared.fault.Limited.{Limited}
 use Rattle.walrus_errors.specs.declared.error.ModuleError.{ModuleError}
-use Rattle.walrus_errors.specs.declared.error.ModuleError.TheVariants.{Memory}
-use Rattle.walrus_emit_parts.specs.Due.{Due, written, lacking, Lacks, IsTooMany, Refused, Writes, or_memory, number, sized, vec}
+use Rattle.walrus_errors.specs.declared.error.ModuleError.TheVariants.{Memory, OutputLimit}
+use Rattle.walrus_emit_parts.specs.Due.{Due, written, lacking, Lacks, IsTooMany, Refused, Writes, or_memory, number, sized, vec, limited}
 
 -- ---- refusals
 
@@ -38,6 +39,18 @@ refused_front a b old new e h = record { keeps = h.keeps; cause = cause_front a 
 
 pub refused_memory : (due : Due) (old new : List ℕ) → Keeps old new → Refused due old new Memory
 refused_memory due old new h = record { keeps = h; cause = inl refl }
+
+-- it is all that is due
+pub lacks_it : (e : ModuleError) (old new : List ℕ) → new ≡ old → Refused (lacking e) old new e
+lacks_it e old new same = record { keeps = keeps_all old new same; cause = inr (inl (record { front = []; back = []; parts = refl })) }
+
+-- a limit is passed, or it isn't
+pub limit_passed : (most n : ℕ) (of : Limited) (due : Due) (old new : List ℕ) → most < n → new ≡ old → Refused (limited most n of due) old new (OutputLimit of)
+limit_passed most n of due old new lt same = rw (lt-ltb most n lt) (lacks_it (OutputLimit of) old new same)
+
+pub within : (most n : ℕ) (of : Limited) (due : Due) (old new : List ℕ) (result : Result (Unit {0}) ModuleError) → n ≤ most → Writes due old new result
+    → Writes (limited most n of due) old new result
+within most n of due old new result le h = rw (le-ltb most n le) h
 
 -- ---- bytes and what is due
 

@@ -2,7 +2,8 @@
 
 ghost use Rattle.std.specs.Prelude.{◌≡◌, ◌<◌, ◌≤◌, ◌-◌, [], ◌∷◌, ◌++◌, length, take, drop};
 ghost use Rattle.wasm_operators.specs.Bytes.{code_bytes, little_bytes, signed_bytes, unsigned_bytes};
-ghost use Rattle.walrus_emit_parts.specs.Due.{Writes, number, or_memory, text, written};
+ghost use Rattle.wasm_formats.specs.declared.fault.Limited.TheVariants.{String};
+ghost use Rattle.walrus_emit_parts.specs.Due.{Writes, limited, number, or_memory, text, written};
 
 use std::alloc::AllocError;
 use walrus_errors::{Limited, ModuleError, Result};
@@ -135,10 +136,11 @@ const MAX_NAME: usize = 100_000;
 /// # Errors
 ///
 /// `OutputLimit` of strings where it has more; want of memory.
+#[tactic(auto, using(crate::proofs::Lemmas::within))]
 pub fn write_name(out: &mut Vec<u8>, name: &str) -> Result<()>
     ensures { Writes (limited 100000 (length name.now) String (text name.now)) out.old.items out.new.items result }
 {
-    if name.as_bytes().len() > MAX_NAME {
+    if name.len() > MAX_NAME {
         let of = Limited::String;
         return Err(ModuleError::OutputLimit { of });
     }

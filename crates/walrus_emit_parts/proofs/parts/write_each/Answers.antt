@@ -1,4 +1,4 @@
-use Rattle.walrus_emit_parts.proofs.Lemmas.{item_refused, list_goes_on, nothing}
+use Rattle.walrus_emit_parts.proofs.Lemmas.{item_refused}
 use Rattle.walrus_emit_parts.proofs.parts.write_each.Goals as goal
 
 pub returns-in-Err : goal.returns-in-Err
