@@ -1,1 +1,4 @@
 mod Counting
+mod Marks
+mod Orders
+mod Zips

@@ -1,5 +1,5 @@
 -- What is known of the bodies of a module before they are written.
-use Rattle.std.specs.Prelude.{ℕ, ◌≡◌, ◌⊎◌, List, [], ◌∷◌}
+use Rattle.std.specs.Prelude.{ℕ, ◌≡◌, List, [], ◌∷◌}
 use Rattle.walrus_instr.specs.declared.instr.Instr.{Instr}
 use Rattle.walrus_instr.specs.declared.instr.Instr.TheVariants.{RefFunc}
 use Rattle.walrus_body_names.specs.walrus_body_writer.walrus_body_text.Visiting.{text_size}
@@ -7,8 +7,6 @@ use Rattle.walrus_body_names.specs.walrus_body_writer.walrus_tree.walrus_builder
 use Rattle.walrus_body_names.specs.walrus_tree.Text.{operators}
 use Rattle.walrus_body_names.specs.walrus_tree.Trees.{IsTree}
 use Rattle.walrus_body_names.specs.Names.{AreSet, has_any, local_in, segment_in, text_names}
-use Rattle.walrus_errors.specs.declared.error.ModuleError.{ModuleError}
-use Rattle.walrus_errors.specs.declared.error.ModuleError.TheVariants.{Memory, NoTree}
 use Rattle.walrus_module.specs.walrus_local_function.declared.local_function.LocalFunction.{LocalFunction}
 use Rattle.walrus_emit_numbers.specs.declared.facts.BodyFacts.{BodyFacts}
 
@@ -25,7 +23,3 @@ pub record AreFacts (entry : ℕ × LocalFunction) (facts : BodyFacts) : Type 0 
   pub segments : facts.uses_data_segments ≡ has_any (text_names segment_in (operators (seqs_of entry.1.builder) 0))
   pub locals : AreSet (text_names local_in (operators (seqs_of entry.1.builder) 0)) facts.used_locals.items
   pub referred : facts.referred.items ≡ text_names function_in (operators (seqs_of entry.1.builder) 0)
-
--- why they can't be had
-abbrev pub IsRefused : ModuleError → Type 0
-IsRefused e = (e ≡ NoTree) ⊎ (e ≡ Memory)

@@ -4,7 +4,8 @@ ghost use Rattle.std.specs.Prelude.{◌≡◌, IfErr, IfOk};
 ghost use Rattle.std.specs.List.{AllZip};
 ghost use Rattle.walrus_arena.specs.Arena.{entries};
 ghost use Rattle.walrus_module.specs.walrus_collections.LookUps.{local_entries};
-ghost use Rattle.walrus_emit_numbers.specs.Facts.{AreFacts, IsRefused};
+ghost use Rattle.walrus_emit_numbers.specs.Facts.{AreFacts};
+ghost use Rattle.walrus_emit_numbers.specs.Refusals.{IsRefused};
 
 use crate::referred::named_functions;
 use crate::refusals::refusal_of_body;
@@ -29,6 +30,7 @@ pub struct BodyFacts {
     pub referred: Vec<FunctionId>,
 }
 
+#[tactic(auto, using(crate::proofs::Zips::refused_of))]
 fn facts_at(alloc: Global, function: FunctionId, local: &LocalFunction) -> Result<BodyFacts>
     ensures facts { IfOk result (AreFacts (function, local.now)) }
     ensures refused { IfErr result IsRefused }
@@ -61,7 +63,8 @@ pub fn facts_of(alloc: Global, functions: &ModuleFunctions) -> Result<Vec<BodyFa
 {
     let mut facts = Vec::new(alloc);
     for (function, local) in functions.iter_local() {
-        facts.push(facts_at(alloc, function, local)?)?;
+        let known = facts_at(alloc, function, local)?;
+        facts.push(known)?;
     }
     Ok(facts)
 }
