@@ -36,7 +36,7 @@ one_more : (number : ℕ → Option ℕ) (id n count : ℕ) → id < count → n
 unfolding numbered_below
 one_more number id n zero lt none = absurd (omega (arith, lt))
 one_more number id n (suc count) lt none = elim (cases_eq count id) as (λ _. numbered_below (with_number number id n) (suc count) ≡ numbered_below number (suc count) + 1) [
-  inl e ↦
+  | inl e ↦
       let first : one_if (with_number number id n count) ≡ 1 = ap one_if (it_is number id n count e) in
       let before : one_if (number count) ≡ 0 = ap one_if (ap number e ∙ none) in
       let rest = below_it number id n count (omega (arith, e)) in
@@ -58,9 +58,9 @@ has_room m id count e h lt none =
 pub counted_next : (m : Numbering) (id : ℕ) → IsCounted m → id < 2 ^ 32 → m.number id ≡ None → IsCounted (next_numbered id m)
 counted_next m id h lt none = record {
   most = λ count le.
-    let before = h.most count le in
-    let more = one_more m.number id m.given count (omega (arith, lt, le)) none in
-    omega (arith, before, more);
+      let before = h.most count le in
+      let more = one_more m.number id m.given count (omega (arith, lt, le)) none in
+      omega (arith, before, more);
 }
 
 pub counted_in_turn : (m : Numbering) (id : ℕ) → IsCounted m → id < 2 ^ 32 → IsCounted (in_turn id m)

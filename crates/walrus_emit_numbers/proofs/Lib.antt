@@ -1,4 +1,5 @@
 mod Counting
+mod Gathers
 mod Marks
 mod Orders
 mod Zips

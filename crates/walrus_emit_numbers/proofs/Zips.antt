@@ -27,15 +27,17 @@ refused_of seqs (faults.Limit of offset) h = absurd h
 pub record Completes (all left : List (ℕ × LocalFunction)) (facts : List BodyFacts) : Type 0 where
   pub by : (rest : List BodyFacts) → AllZip AreFacts left rest → AllZip AreFacts all (facts ++ rest)
 
-pub none_known : (all : List (ℕ × LocalFunction)) (facts : List BodyFacts) → facts ≡ [] → Completes all all facts
-none_known all facts none = record { by = λ rest z. subst (λ (l : List BodyFacts). AllZip AreFacts all (l ++ rest)) (sym none) z }
+pub none_known : (all left : List (ℕ × LocalFunction)) (facts : List BodyFacts) → left ≡ all → facts ≡ [] → Completes all left facts
+none_known all left facts same none = record {
+  by = λ rest z. subst (λ (l : List BodyFacts). AllZip AreFacts all (l ++ rest)) (sym none) (subst (λ (l : List (ℕ × LocalFunction)). AllZip AreFacts l rest) same z);
+}
 
 pub one_known : (all had left : List (ℕ × LocalFunction)) (x : ℕ × LocalFunction) (fact : BodyFacts) (facts new : List BodyFacts) → had ≡ x ∷ left → AreFacts x fact → new ≡ facts ++ fact ∷ []
     → Completes all had facts → Completes all left new
 one_known all had left x fact facts new step known is h = record {
   by = λ rest z.
-    subst (λ (l : List BodyFacts). AllZip AreFacts all (l ++ rest)) (sym is)
-    (subst (λ (l : List BodyFacts). AllZip AreFacts all l) (sym (append_assoc facts (fact ∷ []) rest)) (h.by (fact ∷ rest) (subst (λ (l : List (ℕ × LocalFunction)). AllZip AreFacts l (fact ∷ rest)) (sym step) (known, z))));
+      subst (λ (l : List BodyFacts). AllZip AreFacts all (l ++ rest)) (sym is)
+      (subst (λ (l : List BodyFacts). AllZip AreFacts all l) (sym (append_assoc facts (fact ∷ []) rest)) (h.by (fact ∷ rest) (subst (λ (l : List (ℕ × LocalFunction)). AllZip AreFacts l (fact ∷ rest)) (sym step) (known, z))));
 }
 
 pub all_known : (all had : List (ℕ × LocalFunction)) (facts : List BodyFacts) → had ≡ [] → Completes all had facts → AllZip AreFacts all facts

@@ -1,6 +1,5 @@
 -- Functions to which bodies and globals refer, and that nothing declares.
-use Rattle.std.specs.Prelude.{ℕ, Bool, true, false, not, ◌&&◌, List, [], ◌∷◌, filter, fold, slice_index_or, slice_set}
-use Rattle.std.specs.List.{replicate}
+use Rattle.std.specs.Prelude.{ℕ, Bool, true, false, not, ◌&&◌, List, [], ◌∷◌, filter, fold, replicate, slice_index_or, slice_set}
 use Rattle.walrus_arena.specs.Arena.{next_id}
 use Rattle.walrus_instr.specs.declared.const_expr.ConstExpr.{ConstExpr}
 use Rattle.walrus_instr.specs.declared.const_expr.ConstExpr.TheVariants as exprs

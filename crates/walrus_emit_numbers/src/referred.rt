@@ -58,10 +58,7 @@ impl TextVisitor for Functions {
 ///
 /// `NoTree` exactly where the sequences that the body's own reaches form no tree in which each label names a sequence around it; else
 /// want of memory alone.
-pub fn named_functions(
-    alloc: Global,
-    body: &FunctionBuilder,
-) -> Result<Vec<FunctionId>, BodyError>
+pub fn named_functions(alloc: Global, body: &FunctionBuilder) -> Result<Vec<FunctionId>, BodyError>
     ensures tree { OnOk result (IsTree (seqs_of body.now) 0) }
     ensures named { IfOk result (λ ids. ids.items ≡ text_names function_in (operators (seqs_of body.now) 0)) }
     ensures refused { IfErr result (IsCause (seqs_of body.now)) }

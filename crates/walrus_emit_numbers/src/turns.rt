@@ -10,9 +10,7 @@ use crate::give::{give_element, give_func, give_global, give_memory, give_table,
 use std::alloc::AllocError;
 use walrus_index_maps::IdsToIndices;
 use walrus_module::collections::Collection;
-use walrus_module::module_items::{
-    Element, Global, GlobalKind, ImportKind, Memory, Table, Tag,
-};
+use walrus_module::module_items::{Element, Global, GlobalKind, ImportKind, Memory, Table, Tag};
 use walrus_module_items::{Import, TagKind};
 
 /// What may have the next number of its space.

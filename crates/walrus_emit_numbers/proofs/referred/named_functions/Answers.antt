@@ -2,7 +2,7 @@ use Rattle.std.proofs.Common.{◌∙◌, ap, List, ℕ, ◌++◌}
 use Rattle.walrus_body_names.specs.walrus_tree.walrus_builder.Functions.{seqs_of}
 use Rattle.walrus_body_names.specs.walrus_tree.Text.{operators}
 use Rattle.walrus_body_names.specs.Names.{text_names}
-use Rattle.walrus_body_names.proofs.Gathering.{gathers}
+use Rattle.walrus_emit_numbers.proofs.Gathers.{gathers}
 use Rattle.walrus_emit_numbers.specs.declared.referred.Functions.{Functions}
 use Rattle.walrus_emit_numbers.specs.Facts.{function_in}
 use Rattle.walrus_emit_numbers.proofs.referred.named_functions.Goals as goal
