@@ -1,5 +1,9 @@
 //! Custom sections (Core Specification, binary format: custom section).
 
+ghost use Rattle.walrus_operators.specs.Appended.{Keeps};
+ghost use Rattle.walrus_emit_parts.specs.Due.{Writes};
+ghost use Rattle.walrus_emit_customs.specs.Customs.{custom};
+
 use std::alloc::Global;
 use walrus_arena::UntypedCustomSectionId;
 use walrus_emit_parts::{Part, write_bytes, write_name, write_section as write_part};
@@ -8,7 +12,7 @@ use walrus_index_maps::IdsToIndices;
 use walrus_sections::{CodeTransform, CustomSection, Sections};
 
 // The sections that stand first.
-pub fn is_first(name: &str) -> bool {
+fn is_first(name: &str) -> bool {
     name == "dylink" || name == "dylink.0"
 }
 
@@ -25,35 +29,47 @@ struct Custom<'a> {
 }
 
 impl<'a> Part for Custom<'a> {
-    ghost due = { todo };
+    ghost use Rattle.walrus_emit_customs.specs.Customs.{named};
+
+    ghost due = { λ c. named c.name.now c.contents.now };
+
+    #[tactic(auto, using(walrus_emit_parts::proofs::Lemmas::writes_on, walrus_emit_parts::proofs::Lemmas::refused_front))]
     fn write(&self, out: &mut Vec<u8>) -> Result<()> {
         put!(write_name(out, self.name));
         write_bytes(out, self.contents)
     }
 }
 
-fn write_custom(out: &mut Vec<u8>, name: &str, contents: &[u8]) -> Result<()> {
+fn write_custom(out: &mut Vec<u8>, name: &str, contents: &[u8]) -> Result<()>
+    ensures { Writes (custom name.now contents.now) out.old.items out.new.items result }
+{
     write_part(out, 0, &Custom { name, contents })
 }
 
 // Asks a section of a program's own for its contents.
+#[tactic(auto, using(crate::proofs::Kept::kept, crate::proofs::Kept::keeps_itself))]
 fn write_boxed<B: CustomSection>(
     alloc: Global,
     out: &mut Vec<u8>,
     section: &B,
     maps: &IdsToIndices,
-) -> Result<()> {
+) -> Result<()>
+    ensures { Keeps out.old.items out.new.items }
+{
     let payload = section.data(alloc, maps)?;
     write_custom(out, section.name(), payload.as_slice())
 }
 
+#[tactic(auto, using(crate::proofs::Kept::kept, crate::proofs::Kept::keeps_itself))]
 fn write_section<B: CustomSection>(
     alloc: Global,
     out: &mut Vec<u8>,
     sections: &Sections<B>,
     id: UntypedCustomSectionId,
     maps: &IdsToIndices,
-) -> Result<()> {
+) -> Result<()>
+    ensures { Keeps out.old.items out.new.items }
+{
     if let Some(section) = sections.get_raw(id) {
         return write_custom(out, section.name.as_str(), section.bytes.as_slice());
     }
@@ -75,18 +91,42 @@ fn stands<B: CustomSection>(
     }
 }
 
+// One of these, if it stands there.
+#[tactic(auto, using(crate::proofs::Kept::keeps_itself))]
+fn write_standing<B: CustomSection>(
+    alloc: Global,
+    out: &mut Vec<u8>,
+    sections: &Sections<B>,
+    id: UntypedCustomSectionId,
+    first: bool,
+    maps: &IdsToIndices,
+) -> Result<()>
+    ensures { Keeps out.old.items out.new.items }
+{
+    if !stands(sections, id, first) {
+        return Ok(());
+    }
+    write_section(alloc, out, sections, id, maps)
+}
+
 /// The sections that stand first, or the others, by id.
+///
+/// # Errors
+///
+/// `SectionRefused` where a section of a program's own refuses to say what is in it; `OutputLimit` of strings where the name of a section is
+/// longer than a reader takes; want of memory. What was there stands at the front.
+#[tactic(auto, using(crate::proofs::Kept::keeps_itself))]
 pub fn write_sections<B: CustomSection>(
     alloc: Global,
     out: &mut Vec<u8>,
     sections: &Sections<B>,
     first: bool,
     maps: &IdsToIndices,
-) -> Result<()> {
+) -> Result<()>
+    ensures { Keeps out.old.items out.new.items }
+{
     for id in sections.iter() {
-        if stands(sections, id, first) {
-            write_section(alloc, out, sections, id, maps)?;
-        }
+        put!(write_standing(alloc, out, sections, id, first, maps));
     }
     Ok(())
 }

@@ -1,5 +1,8 @@
 //! The names of a module's items, by their numbers.
 
+ghost use Rattle.walrus_operators.specs.Appended.{Keeps};
+ghost use Rattle.walrus_emit_numbers.specs.Order.{AreWithin};
+
 use std::alloc::{AllocError, Global as Allocator};
 use walrus_arena::LocalId;
 use walrus_emit_numbers::BodyFacts;
@@ -198,7 +201,9 @@ fn local_names<'a>(
     facts: &[BodyFacts],
     order: &[usize],
     maps: &IdsToIndices,
-) -> std::result::Result<Vec<FunctionNames<'a>>, AllocError> {
+) -> std::result::Result<Vec<FunctionNames<'a>>, AllocError>
+    requires { AreWithin facts.now order.now }
+{
     let mut functions = Vec::new(alloc);
     let locals = locals.iter().as_slice();
     for at in order {
@@ -214,7 +219,9 @@ fn all_names<'a, B>(
     facts: &[BodyFacts],
     order: &[usize],
     maps: &IdsToIndices,
-) -> std::result::Result<Names<'a>, AllocError> {
+) -> std::result::Result<Names<'a>, AllocError>
+    requires { AreWithin facts.now order.now }
+{
     Ok(Names {
         own: text(&input.name),
         functions: names_of(alloc, &input.funcs, maps)?,
@@ -234,7 +241,8 @@ fn all_names<'a, B>(
 ///
 /// # Errors
 ///
-/// Want of memory; `OutputLimit` of a file where the section alone is longer than one may be.
+/// Want of memory; `OutputLimit` of a file where the section alone is longer than one may be. What was there stands at the front.
+#[tactic(auto, using(crate::proofs::Kept::payload_kept, crate::proofs::Kept::keeps_itself))]
 pub fn emit_names<B>(
     alloc: Allocator,
     out: &mut Vec<u8>,
@@ -243,7 +251,10 @@ pub fn emit_names<B>(
     facts: &[BodyFacts],
     order: &[usize],
     maps: &IdsToIndices,
-) -> Result<()> {
+) -> Result<()>
+    requires { AreWithin facts.now order.now }
+    ensures { Keeps out.old.items out.new.items }
+{
     let names = all_names(alloc, input, types, facts, order, maps)?;
     write_names(out, &names)
 }

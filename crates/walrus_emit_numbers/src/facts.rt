@@ -1,5 +1,12 @@
 //! What is known of the bodies of a module before they are written.
 
+ghost use Rattle.std.specs.Prelude.{◌≡◌, IfErr, IfOk};
+ghost use Rattle.std.specs.List.{AllZip};
+ghost use Rattle.walrus_arena.specs.Arena.{entries};
+ghost use Rattle.walrus_module.specs.walrus_collections.LookUps.{local_entries};
+ghost use Rattle.walrus_emit_numbers.specs.Facts.{AreFacts};
+ghost use Rattle.walrus_emit_numbers.specs.Refusals.{IsRefused};
+
 use crate::referred::named_functions;
 use crate::refusals::refusal_of_body;
 use std::alloc::Global;
@@ -23,7 +30,11 @@ pub struct BodyFacts {
     pub referred: Vec<FunctionId>,
 }
 
-fn facts_at(alloc: Global, function: FunctionId, local: &LocalFunction) -> Result<BodyFacts> {
+#[tactic(auto, using(crate::proofs::Zips::refused_of))]
+fn facts_at(alloc: Global, function: FunctionId, local: &LocalFunction) -> Result<BodyFacts>
+    ensures facts { IfOk result (AreFacts (function, local.now)) }
+    ensures refused { IfErr result IsRefused }
+{
     let facts = match local.emit_facts(alloc) {
         Ok(facts) => facts,
         Err(fault) => return Err(refusal_of_body(fault)),
@@ -46,10 +57,14 @@ fn facts_at(alloc: Global, function: FunctionId, local: &LocalFunction) -> Resul
 /// # Errors
 ///
 /// `NoTree` where the sequences of a body form none; want of memory.
-pub fn facts_of(alloc: Global, functions: &ModuleFunctions) -> Result<Vec<BodyFacts>> {
+pub fn facts_of(alloc: Global, functions: &ModuleFunctions) -> Result<Vec<BodyFacts>>
+    ensures facts { IfOk result (λ facts. AllZip AreFacts (local_entries (entries functions.now)) facts.items) }
+    ensures refused { IfErr result IsRefused }
+{
     let mut facts = Vec::new(alloc);
     for (function, local) in functions.iter_local() {
-        facts.push(facts_at(alloc, function, local)?)?;
+        let known = facts_at(alloc, function, local)?;
+        facts.push(known)?;
     }
     Ok(facts)
 }

@@ -4,10 +4,12 @@
 
 mod declared;
 mod facts;
+mod give;
 mod numbers;
 mod order;
 mod referred;
 mod refusals;
+mod turns;
 
 pub use declared::undeclared;
 pub use facts::{BodyFacts, facts_of};

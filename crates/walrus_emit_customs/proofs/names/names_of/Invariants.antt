@@ -1,0 +1,7 @@
+use Rattle.walrus_emit_customs.proofs.names.names_of.Given as goal
+
+abbrev pub invariant-loop-item : goal.invariant-loop-item
+invariant-loop-item g l = record {
+  can : (goal.iterator-loop-item g).can_next l.item-iterator;
+  ends : (goal.iterator-loop-item g).is_finite l.item-iterator;
+}

@@ -1,0 +1,5 @@
+mod Counting
+mod Gathers
+mod Marks
+mod Orders
+mod Zips

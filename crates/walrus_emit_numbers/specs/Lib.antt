@@ -1,0 +1,5 @@
+pub mod Facts
+pub mod Numbers
+pub mod Order
+pub mod Refusals
+pub mod Undeclared
