@@ -28,22 +28,6 @@ def main():
             built.add(it.name)
     sources = [it for it in below if it.name not in built]
     print("as sources:", *[it.name for it in sources], file=sys.stderr)
-    # SLOTS: the machine's memory and processors are short until the libraries stand
-    import fcntl, time
-    if len(sources) > 24:
-        sys.exit(f"ahead: {len(sources)} libraries would be read as sources, which takes more memory than there is: run 'python3 bench/libraries.py give /work/libs .' later (sleep 300 between looks), and write code, specs and proofs meanwhile")
-    slot = None
-    while slot is None:
-        for n in range(3):
-            it = open(f"/tmp/ahead.slot{n}", "w")
-            try:
-                fcntl.flock(it, fcntl.LOCK_EX | fcntl.LOCK_NB)
-                slot = it
-                break
-            except OSError:
-                it.close()
-        else:
-            time.sleep(2)
     words = ["--crate-name", crate.name, "src/lib.rt"]
     for name in sorted({"core", *crate.of_kit, *[name for it in sources for name in it.of_kit]}):
         words += ["--extern", f"{name}={rtlib.KIT}/rlibs/{name}.rlib"]
@@ -58,7 +42,6 @@ def main():
         words += ["--lib", f"{it.name}:{','.join(uses)}={it.folder}/src/lib.rt"]
     words += ["--antt-project", f"{rtlib.KIT}/rattle/logic/antt-project.json", "--logic-built", f"{rtlib.KIT}/logic_built"]
     words += ["--links", f"{crate.name}=", "--jobs", "1"]
-    os.set_inheritable(slot.fileno(), False)
     sys.exit(subprocess.run([rtlib.RATTLE, "check", *words, *flags], cwd=folder).returncode)
 
 
