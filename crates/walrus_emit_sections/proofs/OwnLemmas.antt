@@ -1,5 +1,5 @@
 -- The own items of a space, one behind another.
-use Rattle.std.specs.Prelude.{ℕ, zero, suc, ◌+◌, ◌-◌, ◌<◌, ◌≤◌, ◌≡◌, ◌⊎◌, Bool, true, false, List, [], ◌∷◌, ◌++◌, length, map, filter, take, drop, Option, Some, None, Result, Ok, Err, MatchResult, refl}
+use Rattle.std.specs.Prelude.{ℕ, zero, suc, ◌+◌, ◌<◌, ◌≤◌, ◌≡◌, ◌⊎◌, Bool, true, false, List, [], ◌∷◌, ◌++◌, length, map, filter, take, drop, Option, Some, None, Result, Ok, Err, MatchResult, refl}
 use Rattle.std.specs.List.{flat_map}
 use Rattle.std.specs.Option.{option_map}
 use Rattle.std.proofs.Common.{ap, sym, ◌∙◌, subst, arith, inl, inr}
@@ -14,8 +14,8 @@ use Rattle.wasm_formats.specs.declared.fault.Limited.{Limited}
 use Rattle.walrus_errors.specs.declared.error.ModuleError.{ModuleError}
 use Rattle.walrus_errors.specs.declared.error.ModuleError.TheVariants.{Memory, OutputLimit}
 use Rattle.walrus_emit_parts.specs.Due.{Due, IsTooMany, Lacks, Refused, Writes, entries, limited, number, section, sized, vec, written}
-use Rattle.walrus_emit_parts.proofs.Lemmas.{behind_it, grows, limit_passed, nothing, put_before, refused_behind, refused_front, size_is, within, writes_on, written_both}
-use Rattle.walrus_emit_sections.specs.Own.{WritesOwn, WroteSome, live, own_section}
+use Rattle.walrus_emit_parts.proofs.Lemmas.{behind_it, limit_passed, nothing, put_before, refused_behind, refused_front, size_is, within, writes_on}
+use Rattle.walrus_emit_sections.specs.Own.{WroteSome, live, own_section}
 
 module _ {A : Type 0} (is_own : A → Bool) (due : A → Due) where
   abbrev own_due : List A → Due

@@ -1,4 +1,4 @@
-use Rattle.std.proofs.Common.{rules, arith, ap, ◌∙◌, ◌≡◌, [], length}
+use Rattle.std.proofs.Common.{rules, arith, ap, ◌≡◌, [], length}
 use Rattle.walrus_collections.specs.LookUps.{items}
 use Rattle.walrus_emit_sections.proofs.OwnLemmas.{one_counted}
 use Rattle.walrus_emit_sections.proofs.own.live_count.Goals as goal

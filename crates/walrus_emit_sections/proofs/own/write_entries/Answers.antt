@@ -25,7 +25,7 @@ loop-item-preserved-then-has_entry g c = record {
   can = search rules;
   ends = search rules;
   some = item_written g.W.OwnEntry.see g.W.OwnEntry.has_entry (g.W.OwnEntry.due c.args.writer.now) (items c.args.all.now) c.loop-item.item-iterator c.next.new.self c.in-Some.item.now _ _ _ c.loop-item.count _
-  c.in-Some.ensures.steps (sym c.has_entry.ensures ∙ c.if-has_entry.true) c.loop-item.invariant.some c.in-Ok.ensures (search rules);
+      c.in-Some.ensures.steps (sym c.has_entry.ensures ∙ c.if-has_entry.true) c.loop-item.invariant.some c.in-Ok.ensures (search rules);
 }
 
 pub loop-item-preserved : goal.loop-item-preserved
@@ -33,7 +33,7 @@ loop-item-preserved g c = record {
   can = search rules;
   ends = search rules;
   some = item_skipped g.W.OwnEntry.see g.W.OwnEntry.has_entry (g.W.OwnEntry.due c.args.writer.now) (items c.args.all.now) c.loop-item.item-iterator c.next.new.self c.in-Some.item.now _ _ c.loop-item.count
-  c.in-Some.ensures.steps (sym c.has_entry.ensures ∙ c.if-has_entry.false) c.loop-item.invariant.some;
+      c.in-Some.ensures.steps (sym c.has_entry.ensures ∙ c.if-has_entry.false) c.loop-item.invariant.some;
 }
 
 pub returns : goal.returns
