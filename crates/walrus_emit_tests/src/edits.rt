@@ -15,8 +15,6 @@ pub(crate) enum Edit {
     Stray,
     /// It returns, and calls the first function behind that.
     CallBehind,
-    /// It goes.
-    Uninitialize,
 }
 
 /// What is deleted.
@@ -42,25 +40,27 @@ fn put(builder: &mut FunctionBuilder, edit: Edit) -> Result<(), AllocError> {
             builder.func_body().return_()?;
             builder.func_body().call(FunctionId::from_index(0))
         }
-        Edit::Uninitialize => Ok(()),
     }
 }
 
 /// Edits the body of the function of this number.
-pub(crate) fn edit(module: &mut Module, number: usize, edit: Edit) -> Result<(), AllocError> {
+pub(crate) fn edit_body(module: &mut Module, number: usize, edit: Edit) -> Result<(), AllocError> {
     let id = FunctionId::from_index(number & 0xff);
     if !module.funcs.contains(id) {
         return Ok(());
     }
-    let ty = module.funcs.get(id).ty();
-    let kind = &mut module.funcs.get_mut(id).kind;
-    match kind {
-        FunctionKind::Local(_) if matches!(edit, Edit::Uninitialize) => {
-            *kind = FunctionKind::Uninitialized(ty);
-            Ok(())
-        }
+    match &mut module.funcs.get_mut(id).kind {
         FunctionKind::Local(local) => put(local.builder_mut(), edit),
         FunctionKind::Import(_) | FunctionKind::Uninitialized(_) => Ok(()),
+    }
+}
+
+/// Takes away the body of the function of this number.
+pub(crate) fn uninitialize(module: &mut Module, number: usize) {
+    let id = FunctionId::from_index(number & 0xff);
+    if module.funcs.contains(id) {
+        let ty = module.funcs.get(id).ty();
+        module.funcs.get_mut(id).kind = FunctionKind::Uninitialized(ty);
     }
 }
 

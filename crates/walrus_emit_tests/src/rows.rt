@@ -129,7 +129,7 @@ const ROWS: [(&[u8], bool, &[Step]); 24] = [
         NOP,
         false,
         &[
-            Step::Edit(0, Edit::Uninitialize),
+            Step::Uninitialize(0),
             Step::Refused(NOT_LINKED),
             Step::Gc(Some(NOT_LINKED)),
         ],

@@ -2,7 +2,7 @@
 use crate::added::{
     add_each, add_exact, add_imported, add_named, add_parameters, add_shared, add_tables,
 };
-use crate::edits::{Edit, Item, delete, edit};
+use crate::edits::{Edit, Item, delete, edit_body, uninitialize};
 use crate::own::{Own, add_own};
 use std::alloc::Global;
 use walrus_arena::FunctionId;
@@ -17,6 +17,8 @@ use walrus_passes::module::Module;
 #[derive(Clone, Copy)]
 pub(crate) enum Step {
     Edit(usize, Edit),
+    /// The function of this number has no body any more.
+    Uninitialize(usize),
     Delete(usize, Item),
     /// An import that says that it brings the function of this number.
     ImportOf(usize),
@@ -84,7 +86,8 @@ fn is_so(written: Result<Vec<u8>>, step: Step) -> bool {
 // Takes a step; whether what it asks holds.
 fn take(alloc: Global, module: &mut Module, step: Step) -> Result<bool> {
     match step {
-        Step::Edit(number, how) => edit(module, number, how)?,
+        Step::Edit(number, how) => edit_body(module, number, how)?,
+        Step::Uninitialize(number) => uninitialize(module, number),
         Step::Delete(number, item) => delete(module, number, item),
         Step::Start(number) => module.start = Some(FunctionId::from_index(number & 0xff)),
         Step::Segments(count) => return Ok(module.elements.next_id().index() == count),
