@@ -1,5 +1,10 @@
 //! The start function (Core Specification, binary format: start section).
 
+ghost use Rattle.walrus_index_maps.specs.Views.{indices};
+ghost use Rattle.walrus_pairing.specs.Looks.{number_of};
+ghost use Rattle.walrus_emit_parts.specs.Due.{Writes};
+ghost use Rattle.walrus_emit_uses.specs.Starts as starts;
+
 use walrus_arena::FunctionId;
 use walrus_emit_parts::{Part, write_section};
 use walrus_emit_values::write_index;
@@ -10,7 +15,11 @@ use walrus_index_maps::IdsToIndices;
 struct Start(Option<u32>);
 
 impl Part for Start {
-    ghost due = { todo };
+    ghost use Rattle.wasm_formats.specs.declared.fault.Space.TheVariants as spaces;
+    ghost use Rattle.walrus_emit_values.specs.Values.{index};
+
+    ghost due = { λ w. index spaces.Function w.0 };
+
     fn write(&self, out: &mut Vec<u8>) -> Result<()> {
         write_index(out, Space::Function, self.0)
     }
@@ -21,7 +30,10 @@ impl Part for Start {
 /// # Errors
 ///
 /// `DeadReference` where it has no number; want of memory. What was there stands at the front.
-pub fn emit_start(out: &mut Vec<u8>, start: Option<FunctionId>, maps: &IdsToIndices) -> Result<()> {
+#[tactic(auto, using(walrus_emit_parts::proofs::Lemmas::nothing))]
+pub fn emit_start(out: &mut Vec<u8>, start: Option<FunctionId>, maps: &IdsToIndices) -> Result<()>
+    ensures { Writes (starts.start (number_of (indices maps.now) 0) start) out.old.items out.new.items result }
+{
     match start {
         Some(id) => write_section(out, 8, &Start(maps.get_func_index(id))),
         None => Ok(()),
