@@ -1,7 +1,5 @@
 //! The export section.
 
-ghost use Rattle.std.specs.Prelude.{◌≡◌, ◌++◌, true};
-ghost use Rattle.wasm_formats.specs.declared.fault.Space.TheVariants as spaces;
 ghost use Rattle.walrus_index_maps.specs.Views.{indices};
 ghost use Rattle.walrus_pairing.specs.Looks.{number_of};
 ghost use Rattle.walrus_meaning.specs.Meaning.{own_export, own_given, slots_of};

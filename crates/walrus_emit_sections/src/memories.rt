@@ -1,7 +1,6 @@
 //! The memory section.
 
-ghost use Rattle.std.specs.Prelude.{◌≡◌, ◌++◌};
-ghost use Rattle.std.specs.Option.{is_none};
+ghost use Rattle.std.specs.Prelude.{◌≡◌};
 ghost use Rattle.walrus_meaning.specs.Meaning.{own_memory, slots_of};
 ghost use Rattle.walrus_emit_parts.specs.Due.{Writes};
 ghost use Rattle.walrus_emit_values.specs.Values.{optional};

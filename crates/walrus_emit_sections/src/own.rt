@@ -1,8 +1,7 @@
 //! The own items of a space, one behind another.
 
-ghost use Rattle.std.specs.Prelude.{◌≡◌, ◌≤◌, ◌-◌, ◌<◌, ◌^◌, [], ◌∷◌, ◌++◌, Bool, length, take, drop, map, MatchResult};
+ghost use Rattle.std.specs.Prelude.{◌≡◌, ◌≤◌, ◌++◌, Bool, length, take, drop, map, MatchResult};
 ghost use Rattle.wasm_operators.specs.Bytes.{unsigned_bytes};
-ghost use Rattle.walrus_operators.specs.Appended.{Keeps};
 ghost use Rattle.walrus_errors.specs.declared.error.ModuleError.TheVariants.{Memory};
 ghost use Rattle.walrus_collections.specs.LookUps.{items};
 ghost use Rattle.walrus_meaning.specs.Meaning.{slots_of};
