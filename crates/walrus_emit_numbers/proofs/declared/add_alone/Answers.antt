@@ -1,6 +1,6 @@
 use Rattle.std.proofs.Common.{◌∙◌, sym}
 use Rattle.walrus_emit_numbers.specs.Undeclared.{is_alone}
-use Rattle.walrus_emit_numbers.proofs.Marks.{dropped, kept}
+use Rattle.walrus_emit_numbers.proofs.Marks.{kept}
 use Rattle.walrus_emit_numbers.proofs.declared.add_alone.Goals as goal
 
 pub returns-in_ok-push : goal.returns-in_ok-push
