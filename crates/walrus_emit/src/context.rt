@@ -1,4 +1,8 @@
 //! What is at hand as sections are written.
+ghost use Rattle.std.specs.Prelude.{◌≡◌, ◌⊎◌, [], IfErr, IfOk};
+ghost use Rattle.wasm_formats.specs.declared.fault.Space.TheVariants as spaces;
+ghost use Rattle.walrus_errors.specs.declared.error.ModuleError.TheVariants as refusals;
+ghost use Rattle.walrus_emit_numbers.specs.Order.{AreWithin};
 
 use std::alloc::Global;
 use std::ops::Range;
@@ -7,7 +11,7 @@ use walrus_emit_numbers::{BodyFacts, function_order, number};
 use walrus_errors::{ModuleError, Result, Space};
 use walrus_index_maps::IdsToIndices;
 use walrus_module::Module;
-use walrus_types::{EmittedTypes, IrError};
+use walrus_types::{EmittedTypes, IrError, ModuleTypes};
 
 /// What was written of a module so far, without its custom sections.
 #[derive(Drop)]
@@ -40,17 +44,27 @@ pub struct EmitContext<'a, B> {
     pub types: EmittedTypes,
     /// What was written.
     pub emission: Emission,
+    ghost within: { AreWithin facts.now order.items },
 }
 
-fn refusal_of(error: IrError) -> ModuleError {
+fn refusal_of(error: IrError) -> ModuleError
+    ensures { (result ≡ refusals.Memory) ⊎ (result ≡ refusals.DeadReference spaces.Type) }
+{
     match error {
         IrError::Memory => ModuleError::Memory,
         _ => ModuleError::DeadReference { space: Space::Type },
     }
 }
 
-fn emitted<B>(input: &Module<B>) -> Result<EmittedTypes> {
-    match input.types.emit() {
+/// The types of a module as they are written.
+///
+/// # Errors
+///
+/// `DeadReference` of a type, where a type names what isn't written, or a later one past its group; want of memory.
+pub(crate) fn emitted_types(types: &ModuleTypes) -> Result<EmittedTypes>
+    ensures { IfErr result (λ e. (e ≡ refusals.Memory) ⊎ (e ≡ refusals.DeadReference spaces.Type)) }
+{
+    match types.emit() {
         Ok(types) => Ok(types),
         Err(error) => Err(refusal_of(error)),
     }
@@ -62,8 +76,11 @@ impl<'a, B> EmitContext<'a, B> {
     /// # Errors
     ///
     /// `DeadReference` of a type, where a type names what isn't written, or a later one past its group; want of memory.
-    pub fn new(alloc: Global, input: &'a Module<B>, facts: &'a [BodyFacts]) -> Result<Self> {
-        let types = emitted(input)?;
+    pub fn new(alloc: Global, input: &'a Module<B>, facts: &'a [BodyFacts]) -> Result<Self>
+        ensures written { IfOk result (λ cx. cx.emission.bytes.items ≡ []) }
+        ensures refused { IfErr result (λ e. (e ≡ refusals.Memory) ⊎ (e ≡ refusals.DeadReference spaces.Type)) }
+    {
+        let types = emitted_types(&input.types)?;
         let order = function_order(alloc, facts)?;
         let indices = number(alloc, input, types.ids.as_slice(), facts, order.as_slice())?;
         Ok(EmitContext {

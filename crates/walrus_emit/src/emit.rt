@@ -1,20 +1,22 @@
 //! Parts of a module that are written as a section each.
+#![tactic(auto, using(crate::proofs::KeepsLemmas::kept, crate::proofs::KeepsLemmas::payload_kept))]
+ghost use Rattle.walrus_operators.specs.Appended.{Keeps};
 
 use crate::code::emit_functions;
-use crate::context::EmitContext;
+use crate::context::{EmitContext, emitted_types};
 use walrus_customs::ModuleProducers;
 use walrus_emit_sections::{
     emit_data, emit_exports, emit_globals, emit_memories, emit_tables, emit_tags,
 };
 use walrus_emit_types::emit_types;
 use walrus_emit_uses::{emit_elements, emit_imports};
-use walrus_errors::{ModuleError, Result, Space};
+use walrus_errors::Result;
 use walrus_module::collections::{
     ModuleData, ModuleElements, ModuleExports, ModuleFunctions, ModuleGlobals, ModuleImports,
     ModuleMemories, ModuleTables, ModuleTags,
 };
 use walrus_payload_writers::write_producers;
-use walrus_types::{IrError, ModuleTypes};
+use walrus_types::ModuleTypes;
 
 /// What is written as a section.
 pub trait Emit {
@@ -23,7 +25,8 @@ pub trait Emit {
     /// # Errors
     ///
     /// Those of emission. What was written before stands at the front.
-    fn emit<B>(&self, cx: &mut EmitContext<'_, B>) -> Result<()>;
+    fn emit<B>(&self, cx: &mut EmitContext<'_, B>) -> Result<()>
+        ensures { Keeps cx.old.emission.bytes.items cx.new.emission.bytes.items };
 }
 
 impl<T: Emit> Emit for &T {
@@ -34,11 +37,8 @@ impl<T: Emit> Emit for &T {
 
 impl Emit for ModuleTypes {
     fn emit<B>(&self, cx: &mut EmitContext<'_, B>) -> Result<()> {
-        match ModuleTypes::emit(self) {
-            Ok(types) => emit_types(&mut cx.emission.bytes, &types),
-            Err(IrError::Memory) => Err(ModuleError::Memory),
-            Err(_) => Err(ModuleError::DeadReference { space: Space::Type }),
-        }
+        let types = emitted_types(self)?;
+        emit_types(&mut cx.emission.bytes, &types)
     }
 }
 

@@ -4,14 +4,14 @@
 mod checks;
 mod code;
 mod context;
-mod declare;
 mod emit;
+mod segment;
 mod transform;
 mod whole;
 
 pub use checks::check_module;
 pub use code::emit_functions;
 pub use context::{Emission, EmitContext};
-pub use declare::declare;
 pub use emit::Emit;
+pub use segment::declare;
 pub use whole::{EmitWasm, Emitted, emit_sound};

@@ -1,8 +1,13 @@
 //! A whole module is written.
+ghost use Rattle.std.specs.Prelude.{◌≡◌, ◌≤◌, ◌^◌, ◌⊎◌, false, length, IfErr, IfOk, OnOk};
+ghost use Rattle.walrus_module.specs.Parts.{parts};
+ghost use Rattle.walrus_refusals.specs.Sound.{IsRefused, IsSound};
+ghost use Rattle.walrus_emit.specs.Left.{LeavesDeclared};
+ghost use Rattle.walrus_emit.specs.Listed.{listed};
 
 use crate::checks::check_module;
 use crate::context::{Emission, EmitContext};
-use crate::declare::declare;
+use crate::segment::declare;
 use crate::emit::Emit;
 use crate::transform::transform_of;
 use std::alloc::Global;
@@ -82,14 +87,25 @@ fn emit_uses<B>(cx: &mut EmitContext<'_, B>) -> Result<()> {
     Emit::emit(&input.data_segments, cx)
 }
 
+// The section of names.
+fn emit_names_of<B>(cx: &mut EmitContext<'_, B>) -> Result<()> {
+    let order = cx.order.as_slice();
+    emit_names(
+        cx.alloc,
+        &mut cx.emission.bytes,
+        cx.module,
+        &cx.types,
+        cx.facts,
+        order,
+        &cx.emission.indices,
+    )
+}
+
 // The sections of names and producers, as the flags ask.
 fn emit_payloads<B>(cx: &mut EmitContext<'_, B>) -> Result<()> {
     let input = cx.module;
     if input.config().generate_name_section {
-        let types = &cx.types;
-        let order = cx.order.as_slice();
-        let Emission { bytes, indices, .. } = &mut cx.emission;
-        emit_names(cx.alloc, bytes, input, types, cx.facts, order, &*indices)?;
+        emit_names_of(cx)?;
     }
     if input.config().generate_producers_section {
         Emit::emit(&input.producers, cx)?;
@@ -112,20 +128,26 @@ fn emit_standard<B: CustomSection>(
     Ok(cx.emission)
 }
 
+// Where code stands.
+fn code_transform(alloc: Global, emission: &Emission) -> Result<CodeTransform> {
+    let locations = emission.locations.as_slice();
+    let ranges = emission.ranges.as_slice();
+    let start = emission.code_section_start;
+    Ok(transform_of(alloc, locations, ranges, start)?)
+}
+
 // Tells a program's own sections where code stands, where that is wanted.
-fn tell<B: CustomSection>(alloc: Global, input: &mut Module<B>, emission: &Emission) -> Result<()> {
+fn tell<B: CustomSection>(alloc: Global, input: &mut Module<B>, emission: &Emission) -> Result<()>
+    ensures rest { parts input.new ≡ parts input.old }
+    ensures untold { input.old.config.preserve_code_transform ≡ false → input.new.customs ≡ input.old.customs }
+{
     if !input.config().preserve_code_transform {
         return Ok(());
     }
     if !has_own(input) {
         return Ok(());
     }
-    let transform = transform_of(
-        alloc,
-        emission.locations.as_slice(),
-        emission.ranges.as_slice(),
-        emission.code_section_start,
-    )?;
+    let transform = code_transform(alloc, emission)?;
     transform_sections(alloc, &mut input.customs, &transform)
 }
 
@@ -139,29 +161,39 @@ fn has_own<B: CustomSection>(input: &Module<B>) -> bool {
     false
 }
 
+// The custom sections that don't stand first, behind all others.
+fn emit_last<B: CustomSection>(
+    alloc: Global,
+    input: &Module<B>,
+    mut emission: Emission,
+) -> Result<Emitted>
+    ensures { IfOk result (λ emitted. length emitted.bytes.items ≤ 2 ^ 30) }
+{
+    let bytes = &mut emission.bytes;
+    write_sections(alloc, bytes, &input.customs, false, &emission.indices)?;
+    if emission.bytes.len() > MAX_FILE {
+        let of = Limited::File;
+        return Err(ModuleError::OutputLimit { of });
+    }
+    Ok(emission)
+}
+
 /// Writes a module all of whose live items can be written.
 ///
 /// # Errors
 ///
 /// `SectionRefused` where a section of a program's own refuses to say what is in it; `OutputLimit` where a limit of the standard's readers
 /// is passed; want of memory. The module is as it was, but for at most one declared segment, and sections that were told where code stands.
-pub fn emit_sound<B: CustomSection>(alloc: Global, input: &mut Module<B>) -> Result<Emitted> {
+pub fn emit_sound<B: CustomSection>(alloc: Global, input: &mut Module<B>) -> Result<Emitted>
+    ensures small { IfOk result (λ emitted. length emitted.bytes.items ≤ 2 ^ 30) }
+    ensures left { LeavesDeclared (parts input.old) (parts input.new) }
+    ensures untold { input.old.config.preserve_code_transform ≡ false → input.new.customs ≡ input.old.customs }
+{
     let facts = facts_of(alloc, &input.funcs)?;
     declare(alloc, input, facts.as_slice())?;
-    let mut emission = emit_standard(alloc, &*input, facts.as_slice())?;
+    let emission = emit_standard(alloc, &*input, facts.as_slice())?;
     tell(alloc, input, &emission)?;
-    write_sections(
-        alloc,
-        &mut emission.bytes,
-        &input.customs,
-        false,
-        &emission.indices,
-    )?;
-    if emission.bytes.len() > MAX_FILE {
-        let of = Limited::File;
-        return Err(ModuleError::OutputLimit { of });
-    }
-    Ok(emission)
+    emit_last(alloc, &*input, emission)
 }
 
 /// Modules that are written as bytes.
@@ -183,21 +215,28 @@ pub trait EmitWasm {
 }
 
 impl<B: CustomSection> EmitWasm for Module<B> {
-    fn emit_wasm(&mut self, alloc: Global) -> Result<Vec<u8>> {
+    fn emit_wasm(&mut self, alloc: Global) -> Result<Vec<u8>>
+        ensures small { IfOk result (λ bytes. length bytes.items ≤ 2 ^ 30) }
+        ensures sound { OnOk result (IsSound (parts self.old) (listed (parts self.old))) }
+        ensures left { LeavesDeclared (parts self.old) (parts self.new) }
+        ensures untold { self.old.config.preserve_code_transform ≡ false → self.new.customs ≡ self.old.customs }
+        ensures refused { IfErr result (λ e. (IsRefused (parts self.old) (listed (parts self.old)) e × (self.new ≡ self.old)) ⊎ IsSound (parts self.old) (listed (parts self.old))) }
+    {
         check_module(alloc, &*self)?;
         let emission = emit_sound(alloc, self)?;
         Ok(emission.bytes)
     }
 
-    fn emit_wasm_with_transform(&mut self, alloc: Global) -> Result<(Vec<u8>, CodeTransform)> {
+    fn emit_wasm_with_transform(&mut self, alloc: Global) -> Result<(Vec<u8>, CodeTransform)>
+        ensures small { IfOk result (λ answer. length answer.0.items ≤ 2 ^ 30) }
+        ensures sound { OnOk result (IsSound (parts self.old) (listed (parts self.old))) }
+        ensures left { LeavesDeclared (parts self.old) (parts self.new) }
+        ensures untold { self.old.config.preserve_code_transform ≡ false → self.new.customs ≡ self.old.customs }
+        ensures refused { IfErr result (λ e. (IsRefused (parts self.old) (listed (parts self.old)) e × (self.new ≡ self.old)) ⊎ IsSound (parts self.old) (listed (parts self.old))) }
+    {
         check_module(alloc, &*self)?;
         let emission = emit_sound(alloc, self)?;
-        let transform = transform_of(
-            alloc,
-            emission.locations.as_slice(),
-            emission.ranges.as_slice(),
-            emission.code_section_start,
-        )?;
+        let transform = code_transform(alloc, &emission)?;
         Ok((emission.bytes, transform))
     }
 }

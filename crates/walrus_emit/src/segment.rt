@@ -1,4 +1,7 @@
 //! The declared segment of a module.
+ghost use Rattle.std.specs.Prelude.{◌≡◌, OnErr};
+ghost use Rattle.walrus_module.specs.Parts.{parts};
+ghost use Rattle.walrus_emit.specs.Left.{LeavesDeclared};
 
 use std::alloc::Global;
 use walrus_emit_numbers::{BodyFacts, undeclared};
@@ -11,7 +14,11 @@ use walrus_module::module_items::{ElementItems, ElementKind};
 /// # Errors
 ///
 /// Want of memory. Nothing is added.
-pub fn declare<B>(alloc: Global, input: &mut Module<B>, facts: &[BodyFacts]) -> Result<()> {
+pub fn declare<B>(alloc: Global, input: &mut Module<B>, facts: &[BodyFacts]) -> Result<()>
+    ensures left { LeavesDeclared (parts input.old) (parts input.new) }
+    ensures customs { input.new.customs ≡ input.old.customs }
+    ensures refused { OnErr result (input.new ≡ input.old) }
+{
     let functions = undeclared(alloc, &*input, facts)?;
     if functions.is_empty() {
         return Ok(());

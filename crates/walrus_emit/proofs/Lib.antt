@@ -1,0 +1,2 @@
+pub mod KeepsLemmas
+pub mod ListLemmas
