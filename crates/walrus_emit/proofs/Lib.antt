@@ -1,2 +1,3 @@
 pub mod KeepsLemmas
 pub mod ListLemmas
+pub mod DeclaredLemmas

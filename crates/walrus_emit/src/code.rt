@@ -133,12 +133,7 @@ fn add_bytes(bytes: &mut Vec<u8>, more: &[u8]) -> Result<()>
 
 // Puts a body behind what was written, with its size; its places are behind the contents' beginning.
 #[tactic(auto, using(crate::proofs::KeepsLemmas::keeps_both))]
-fn add_body(
-    emission: &mut Emission,
-    function: FunctionId,
-    start: usize,
-    out: &Output,
-) -> Result<()>
+fn add_body(emission: &mut Emission, function: FunctionId, start: usize, out: &Output) -> Result<()>
     requires { start ≤ length emission.old.bytes.items }
     ensures { Keeps emission.old.bytes.items emission.new.bytes.items }
 {
@@ -170,11 +165,7 @@ struct Bodies<'a, B> {
     start: usize,
 }
 
-fn write_one<B>(
-    emission: &mut Emission,
-    bodies: &Bodies<'_, B>,
-    facts: &BodyFacts,
-) -> Result<()>
+fn write_one<B>(emission: &mut Emission, bodies: &Bodies<'_, B>, facts: &BodyFacts) -> Result<()>
     requires { bodies.now.start ≤ length emission.old.bytes.items }
     ensures { Keeps emission.old.bytes.items emission.new.bytes.items }
 {

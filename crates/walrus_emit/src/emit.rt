@@ -1,5 +1,6 @@
 //! Parts of a module that are written as a section each.
 #![tactic(auto, using(crate::proofs::KeepsLemmas::kept, crate::proofs::KeepsLemmas::payload_kept))]
+
 ghost use Rattle.walrus_operators.specs.Appended.{Keeps};
 
 use crate::code::emit_functions;

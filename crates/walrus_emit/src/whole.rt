@@ -7,8 +7,8 @@ ghost use Rattle.walrus_emit.specs.Listed.{listed};
 
 use crate::checks::check_module;
 use crate::context::{Emission, EmitContext};
-use crate::segment::declare;
 use crate::emit::Emit;
+use crate::segment::declare;
 use crate::transform::transform_of;
 use std::alloc::Global;
 use walrus_arena::FunctionId;
