@@ -1,4 +1,4 @@
-use Rattle.std.proofs.Common.{refl, tt, inr}
+use Rattle.std.proofs.Common.{refl, inr}
 use Rattle.walrus_module.specs.walrus_module_items.declared.element.ElementItems.TheVariants.{Functions}
 use Rattle.walrus_emit.proofs.DeclaredLemmas.{adds_declared}
 use Rattle.walrus_emit.proofs.segment.declare.Goals as goal
