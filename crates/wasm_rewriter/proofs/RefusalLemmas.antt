@@ -18,7 +18,7 @@ use Rattle.wasm_rewriter.specs.Rewrites.{IsAccepted, IsRefused, MayBeRefused, co
 
 -- what a module was read from is accepted
 pub is_accepted : {B : Type 0} (config : ModuleConfig) (bytes : List ℕ) (m : Whole B) → IsRead config bytes m → DoesRead config bytes
-is_accepted config bytes m read = let r = read.1.1.reads in (_, (r.short, (_, (_, (r.sections, (r.codes_are, refl))))))
+is_accepted config bytes m read = let r = read.1.1.reads in (_, (r.short, (_, _, r.sections, r.codes_are, refl)))
 
 pub unread : (o : Options) (input : List ℕ) (error : ModuleError) → IsRefusal (read_features (config_of o)) input error → IsRefused o input (fault_of error)
 unread o input error refused = inl (record { error = error; refusal = refused; fault_is = refl })

@@ -1,6 +1,7 @@
-use Rattle.std.proofs.Common.{inl}
-use Rattle.std.proofs.lemmas.Result.{err_from_is_err_and}
+use Rattle.std.proofs.Common.{◌≡◌, inl, is_some, option_map, vec_items}
+use Rattle.std.proofs.lemmas.Result.{err_from_is_err_and, IfErr-weaker, IfOk-weaker}
 use Rattle.wasm_rewriter.proofs.RefusalLemmas.{accepted_told, may_refuse, read_long, read_refused, refused_long}
+use Rattle.wasm_rewriter.specs.Rewrites.{IsAccepted, IsRewritten, MayBeRefused}
 use Rattle.wasm_rewriter.proofs.rewriting.rewrite.Goals as goal
 
 pub returns-in_err-input-clause-refused : goal.returns-in_err-input-clause-refused
@@ -33,3 +34,13 @@ returns-clause-refused c = read_refused c.args.options.now c.args.bytes.now c.in
 
 pub returns-clause-too_long : goal.returns-clause-too_long
 returns-clause-too_long c = read_long c.args.options.now c.args.bytes.now c.in_ok-input.ensures.read c.with_places.result c.with_places.ensures.refused
+
+pub returns-clause-rewritten : goal.returns-clause-rewritten
+returns-clause-rewritten c =
+    let o = c.args.options.now in
+    IfOk-weaker c.with_places.result (λ out. is_some (option_map vec_items out.places) ≡ o.places) (λ out. IsRewritten o c.args.bytes.now (option_map vec_items out.places))
+    (λ out asked. record { reads = c.in_ok-input.ensures.read; asked = asked }) c.with_places.ensures.asked
+
+pub returns-clause-accepted : goal.returns-clause-accepted
+returns-clause-accepted c =
+    IfErr-weaker c.with_places.result (λ fault. MayBeRefused fault) (λ fault. IsAccepted c.args.options.now c.args.bytes.now → MayBeRefused fault) (λ fault may reads. may) c.with_places.ensures.refused
