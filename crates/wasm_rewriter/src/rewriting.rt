@@ -57,7 +57,6 @@ fn config_of(options: &Options) -> ModuleConfig
 }
 
 // The module that the bytes spell.
-#[tactic(auto, using(crate::proofs::RefusalLemmas::is_accepted))]
 fn read(alloc: Global, bytes: &[u8], options: &Options) -> Result<Module<NoSection>, Fault>
     ensures read { OnOk result (IsAccepted options.now bytes.now) }
     ensures refused { IfErr result (λ fault. IsUnread options.now bytes.now fault) }
