@@ -4,7 +4,8 @@
     python3 bench/libraries.py strip DIR
     python3 bench/libraries.py give FROM TO [CRATE..]
 
-strip takes the tests, benchmarks, programs and wrong bodies out of a clone, with the rewriter for the thin grammar, so that `rt ci` there
+strip takes the tests, benchmarks, programs and wrong bodies out of a clone
+of programs' words, so that `rt ci` there
 proves the libraries that all else stands on first. Commit there before: it isn't to be committed from.
 
 give hands the clone TO the libraries that stand in FROM (hard links, with the stamps by which `rt check` takes them), where their sources
@@ -20,8 +21,7 @@ import shutil
 import subprocess
 import sys
 
-THIN = """wasm_model rewriter_module reading_laws rewriter_laws run_laws rewriter_bodies rewriter_reader rewriter_reach rewriter_part rewriter_writer
-rewriter_devices wasm_rewriter rewriter_program inspect_program""".split()
+NOT_LIBRARIES = ["rewriter_program", "inspect_program"]
 PROGRAMS = re.compile(r"(_tests|_bench|_cli|_rows|_program)$")
 
 
@@ -32,7 +32,7 @@ def read(path, mode="r"):
 
 def strip(folder):
     def goes(name):
-        return name in THIN or bool(PROGRAMS.search(name))
+        return name in NOT_LIBRARIES or bool(PROGRAMS.search(name))
 
     lines = read(f"{folder}/crates.txt").split("\n")
     kept = [it for it in lines if not (":" in it.partition("#")[0] and goes(it.split(":")[0].split()[0]))]
