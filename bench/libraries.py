@@ -4,9 +4,8 @@
     python3 bench/libraries.py strip DIR
     python3 bench/libraries.py give FROM TO [CRATE..]
 
-strip takes the tests, benchmarks, programs and wrong bodies out of a clone
-of programs' words, so that `rt ci` there
-proves the libraries that all else stands on first. Commit there before: it isn't to be committed from.
+strip takes the tests, programs, their words and wrong bodies out of a clone, so that `rt ci` there proves the libraries that all else
+stands on first. Commit there before: it isn't to be committed from.
 
 give hands the clone TO the libraries that stand in FROM (hard links, with the stamps by which `rt check` takes them), where their sources
 and those of all crates below are the same in both; it may be called again while more come to stand. It says which crates differ.
@@ -22,7 +21,7 @@ import subprocess
 import sys
 
 NOT_LIBRARIES = ["rewriter_program", "inspect_program"]
-PROGRAMS = re.compile(r"(_tests|_bench|_cli|_rows|_program)$")
+PROGRAMS = re.compile(r"(_tests|_cli|_rows|_program|^rows)$")
 
 
 def read(path, mode="r"):
