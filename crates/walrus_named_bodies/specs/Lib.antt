@@ -1,4 +1,3 @@
-pub mod Refusals
 pub mod Named
 pub mod Code
 pub mod Behind

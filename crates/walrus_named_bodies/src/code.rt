@@ -9,9 +9,8 @@ ghost use Rattle.walrus_file_bodies.specs.walrus_module_bodies.declared.file.Fil
 ghost use Rattle.walrus_file_bodies.specs.Ready.{AreReady, IsFileOf, bodies_in};
 ghost use Rattle.walrus_named_bodies.specs.Code.{IsCodeRefusal};
 
-use crate::refusal::module_error;
 use std::alloc::{AllocError, Global};
-use walrus_errors::Result;
+use walrus_errors::{ModuleError, Result};
 use walrus_file_bodies::functions_into::FunctionBody;
 use walrus_file_bodies::items_into::functions_into::pair_bodies;
 use walrus_file_bodies::items_into::module_env::body_env::instr::type_table::{
@@ -109,6 +108,6 @@ pub(crate) fn read_code(
         bodies.as_slice(),
     ) {
         Ok(()) => Ok(()),
-        Err(fault) => Err(module_error(fault)),
+        Err(fault) => Err(ModuleError::from(fault)),
     }
 }

@@ -5,12 +5,10 @@
 mod code;
 mod named;
 mod names;
-mod refusal;
 
 pub use code::bodies_of;
 pub use named::read_named;
 pub use names::name_items;
-pub use refusal::module_error;
 
 // Passed on to crates above, which then list this one alone.
 pub mod file_bodies {

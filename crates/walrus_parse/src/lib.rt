@@ -112,7 +112,7 @@ pub mod module_items {
 }
 
 pub mod named_bodies {
-    pub use walrus_named_bodies::{bodies_of, module_error, name_items};
+    pub use walrus_named_bodies::{bodies_of, name_items};
 }
 
 pub mod payloads_into {
