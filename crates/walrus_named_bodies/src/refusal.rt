@@ -3,8 +3,8 @@
 ghost use Rattle.std.specs.Prelude.{◌≡◌};
 ghost use Rattle.walrus_named_bodies.specs.Refusals.{module_error, place_of};
 
+use walrus_body_env::BodyError;
 use walrus_errors::ModuleError;
-use walrus_file_bodies::items_into::module_env::body_env::BodyError;
 
 // A body that is read is refused at a place.
 fn place_of(place: Option<u64>) -> u64
