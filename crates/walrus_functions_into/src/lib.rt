@@ -20,10 +20,6 @@ pub mod local_function {
     pub use walrus_locations::local_function::LocalFunction;
 }
 
-pub mod locations {
-    pub use walrus_locations::send_locations;
-}
-
 pub mod module_items {
     pub use walrus_locations::module_items::FunctionKind;
 }

@@ -120,10 +120,6 @@ pub mod module_env {
     }
 }
 
-pub mod parse {
-    pub use walrus_parse::{FromBuffer, Parse, parse_into};
-}
-
 pub mod types_into {
     pub mod laws {
         pub use walrus_parse::file_bodies::items_into::functions_into::types_into::laws::{

@@ -8,9 +8,9 @@ ghost use Rattle.walrus_used.specs.Counts.{counts_of};
 ghost use Rattle.walrus_refusals.specs.Checks.{HoldsIn, HoldsOrFails, IsMet};
 
 use std::alloc::AllocError;
-use walrus_linked::module::Module;
 use walrus_marks::Marks;
 use walrus_roots::Item;
+use walrus_used::module::Module;
 use walrus_used::{Check, id_counts};
 use wasm_formats::Space;
 

@@ -6,10 +6,10 @@ ghost use Rattle.walrus_refusals.specs.Checks.{AreClaims, IsAddedPast};
 use crate::linked::brought;
 use std::alloc::{AllocError, Global};
 use walrus_arena::ImportId;
-use walrus_linked::module::Module;
 use walrus_marks::Claims;
 use walrus_roots::Item;
 use walrus_used::id_counts;
+use walrus_used::module::Module;
 
 // Adds the item if there are fewer ids in its space.
 fn add_past(claims: &mut Claims, counts: &[usize; 10], item: Item) -> Result<(), AllocError>

@@ -9,10 +9,10 @@ ghost use Rattle.walrus_refusals.specs.Written.{AreInOneGroup, MayName, NamesNoL
 use std::alloc::{AllocError, Global};
 use walrus_arena::TypeId;
 use walrus_items::RecGroup;
-use walrus_linked::module::Module;
 use walrus_roots::Item;
 use walrus_types::ModuleTypes;
 use walrus_used::Check;
+use walrus_used::module::Module;
 use wasm_formats::Space;
 
 // Whether both lists begin, with one id.

@@ -16,14 +16,13 @@ ghost use Rattle.walrus_refusals.specs.Checks.{AllClaimTruly, ClaimsTruly};
 use crate::arguments::has_arguments;
 use std::alloc::{AllocError, Global};
 use walrus_arena::{FunctionId, GlobalId, ImportId, MemoryId, TableId, TagId};
+use walrus_collections::{ModuleGlobals, ModuleMemories, ModuleTables, ModuleTags};
 use walrus_exact::module_items::{FunctionKind, GlobalKind, Import, ImportKind, TagKind};
-use walrus_linked::collections::{
-    ModuleFunctions, ModuleGlobals, ModuleImports, ModuleMemories, ModuleTables, ModuleTags,
-};
-use walrus_linked::module::Module;
 use walrus_marks::Marks;
 use walrus_roots::Item;
 use walrus_used::Check;
+use walrus_used::collections::{ModuleFunctions, ModuleImports};
+use walrus_used::module::Module;
 use wasm_formats::Space;
 
 /// The item that an import brings.

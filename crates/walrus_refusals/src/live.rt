@@ -6,10 +6,10 @@ ghost use Rattle.walrus_linked.specs.walrus_module.Items.{Lives};
 
 use std::alloc::AllocError;
 use walrus_arena::TypeId;
-use walrus_linked::module::Module;
 use walrus_roots::Item;
 use walrus_types::ModuleTypes;
 use walrus_used::Check;
+use walrus_used::module::Module;
 use wasm_formats::Space;
 
 // Whether the type lives and is no entry type.

@@ -21,9 +21,9 @@ use crate::trees::Trees;
 use crate::written::{Inexact, Unshared, locals_have_none};
 use std::alloc::{AllocError, Global};
 use walrus_errors::{Form, ModuleError};
-use walrus_linked::module::Module;
 use walrus_marks::Marks;
 use walrus_roots::Item;
+use walrus_used::module::Module;
 use walrus_used::{Check, Reached, reach_items};
 use wasm_formats::Space;
 

@@ -21,19 +21,18 @@ ghost use Rattle.walrus_refusals.specs.Written.{BodyHasNone, HasNoExact, HasNone
 
 use std::alloc::{AllocError, Global};
 use walrus_arena::{DataId, ElementId, FunctionId, GlobalId, TableId, TypeId};
+use walrus_collections::{ModuleGlobals, ModuleTables};
 use walrus_exact::module_items::FunctionKind;
 use walrus_exact::{
     data_exact, element_exact, form_exact, global_exact, seq_exact, table_exact, val_exact,
 };
 use walrus_instr::InstrSeq;
 use walrus_items::Local;
-use walrus_linked::collections::{
-    ModuleData, ModuleElements, ModuleFunctions, ModuleGlobals, ModuleTables,
-};
-use walrus_linked::module::Module;
 use walrus_marks::Marks;
 use walrus_roots::Item;
 use walrus_types::ModuleTypes;
+use walrus_used::collections::{ModuleData, ModuleElements, ModuleFunctions};
+use walrus_used::module::Module;
 use walrus_used::{Check, reached_seqs};
 use wasm_formats::Space;
 

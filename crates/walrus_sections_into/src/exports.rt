@@ -14,10 +14,10 @@ ghost use Rattle.walrus_sections_into.specs.declared.error.IntoError.TheVariants
 use crate::error::IntoError;
 use crate::ids::{function_id, global_id, memory_id, table_id, tag_id};
 use walrus_arena::FunctionId;
+use walrus_collections::ModuleExports;
+use walrus_collections::module_items::ExportItem;
 use walrus_index_maps::IndicesToIds;
 use walrus_known_sections::Export;
-use walrus_meaning::linked::collections::ModuleExports;
-use walrus_meaning::module::module_items::ExportItem;
 use wasm_formats::Space;
 
 // What is given out.

@@ -13,10 +13,10 @@ ghost use Rattle.walrus_sections_into.specs.declared.error.IntoError.TheVariants
 
 use crate::error::IntoError;
 use crate::ids::{function_id, global_id, memory_id, small, table_id, tag_id};
+use walrus_collections::ModuleImports;
+use walrus_collections::module_items::ImportKind;
 use walrus_index_maps::IndicesToIds;
 use walrus_known_sections::Import;
-use walrus_meaning::linked::collections::ModuleImports;
-use walrus_meaning::module::module_items::ImportKind;
 use wasm_formats::Space;
 
 // What is brought.

@@ -10,8 +10,8 @@ ghost use Rattle.walrus_sections_into.specs.declared.error.IntoError.TheVariants
 
 use crate::error::IntoError;
 use crate::ids::import_id;
+use walrus_collections::ModuleMemories;
 use walrus_known_sections::Memory;
-use walrus_meaning::linked::collections::ModuleMemories;
 
 fn add_memory(memory: &Memory, into: &mut ModuleMemories) -> Result<(), IntoError>
     ensures added { OnOk result (Adds (IsMemoryOf (next_id into.old) memory.now) into.old into.new) }

@@ -16,10 +16,10 @@ use crate::error::IntoError;
 use crate::exprs::read_expr;
 use crate::ids::memory_id;
 use std::alloc::Global;
+use walrus_collections::ModuleData;
+use walrus_collections::module_items::DataKind;
 use walrus_index_maps::IndicesToIds;
 use walrus_known_sections::{Data, Mode};
-use walrus_meaning::linked::collections::ModuleData;
-use walrus_meaning::module::module_items::DataKind;
 
 // When it is copied.
 fn read_mode(alloc: Global, mode: &Mode, maps: &IndicesToIds) -> Result<DataKind, IntoError>

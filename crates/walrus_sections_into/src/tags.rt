@@ -13,9 +13,9 @@ ghost use Rattle.walrus_sections_into.specs.declared.error.IntoError.TheVariants
 
 use crate::error::IntoError;
 use crate::ids::{import_id, type_id};
+use walrus_collections::ModuleTags;
 use walrus_index_maps::IndicesToIds;
 use walrus_known_sections::Tag;
-use walrus_meaning::linked::collections::ModuleTags;
 
 fn add_tag(tag: &Tag, maps: &IndicesToIds, into: &mut ModuleTags) -> Result<(), IntoError>
     ensures added { OnOk result (Adds (IsTagOf (look_of (ids maps.now)) (next_id into.old) tag.now) into.old into.new) }
