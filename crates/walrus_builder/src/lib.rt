@@ -29,7 +29,13 @@ pub mod tree_walks {
     pub use walrus_walks::Visitor;
 
     pub mod instr {
-        pub use walrus_walks::instr::InstrSeqType;
+        pub use walrus_walks::instr::{
+            Instr, InstrLocId, InstrSeq, InstrSeqType, LegacyCatch, Value,
+        };
+
+        pub mod type_table {
+            pub use walrus_walks::instr::type_table::{ModuleTypes, ValType};
+        }
     }
 
     pub mod laws {

@@ -42,10 +42,16 @@ pub use writer::{write_code, write_operator};
 // Passed on to crates above, which then list this one alone.
 pub mod immediate_forms {
     pub use wasm_operators::MemoryAccess;
+
+    pub mod reader {
+        pub mod features {
+            pub use wasm_operators::reader::features::WasmFeatures;
+        }
+    }
 }
 
 pub mod operator_table {
-    pub use wasm_operators::{Flow, Kind, OpCode};
+    pub use wasm_operators::{Entry, Flow, Kind, OpCode};
 }
 
 pub mod ref_types {

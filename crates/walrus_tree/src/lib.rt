@@ -17,7 +17,13 @@ pub mod builder {
         pub use walrus_builder::tree_walks::Visitor;
 
         pub mod instr {
-            pub use walrus_builder::tree_walks::instr::InstrSeqType;
+            pub use walrus_builder::tree_walks::instr::{
+                Instr, InstrLocId, InstrSeq, InstrSeqType, LegacyCatch, Value,
+            };
+
+            pub mod type_table {
+                pub use walrus_builder::tree_walks::instr::type_table::{ModuleTypes, ValType};
+            }
         }
     }
 }

@@ -32,7 +32,7 @@ pub mod instr {
     };
 
     pub mod type_table {
-        pub use walrus_instr::type_table::{RefType, ValType};
+        pub use walrus_instr::type_table::{ModuleTypes, RefType, ValType};
     }
 }
 

@@ -20,6 +20,10 @@ pub mod reader {
     pub use wasm_ref_types::reader::{
         BinaryReader, Error, ErrorKind, FromReader, Ieee32, Ieee64, Result, WasmFeatures,
     };
+
+    pub mod features {
+        pub use wasm_ref_types::reader::features::WasmFeatures;
+    }
 }
 
 pub mod ref_types {

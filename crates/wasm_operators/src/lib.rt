@@ -38,8 +38,12 @@ pub use small::{read_below, read_zero};
 // Passed on to crates above, which then list this one alone.
 pub mod reader {
     pub use wasm_composite_types::reader::{
-        BinaryReader, Error, ErrorKind, FromReader, Ieee32, Ieee64, Result,
+        BinaryReader, Error, ErrorKind, FromReader, Ieee32, Ieee64, Result, WasmFeatures,
     };
+
+    pub mod features {
+        pub use wasm_composite_types::reader::features::WasmFeatures;
+    }
 }
 
 pub mod ref_types {

@@ -25,6 +25,10 @@ pub mod reader {
         BinaryReader, Error, ErrorKind, FromReader, Ieee32, Ieee64, Result, WasmFeatures,
     };
 
+    pub mod features {
+        pub use wasm_reader::features::WasmFeatures;
+    }
+
     pub mod limits {
         pub use wasm_reader::limits::{
             MAX_WASM_FUNCTION_PARAMS, MAX_WASM_FUNCTION_RETURNS, MAX_WASM_STRUCT_FIELDS,
