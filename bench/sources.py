@@ -63,7 +63,9 @@ class Function:
         first = places[0] if places else len(lines)
         text = re.sub(r"\s+", " ", " ".join(lines[:first])).strip()
         text = re.sub(r"\s*(\{.*|;)$", "", text)
-        self.signature = re.sub(r"\( ", "(", re.sub(r",? \)", ")", text))
+        for spaced, plain in ((r",? \)", ")"), (r"\( ", "("), (r"< ", "<"), (r",? >(?!=)", ">")):
+            text = re.sub(spaced, plain, text)
+        self.signature = text
         self.clauses = re.sub(r"(\n\s*\{\}?.*|;)\s*\Z", "", "\n".join(lines[first:]))
 
     @property
