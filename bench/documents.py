@@ -108,14 +108,12 @@ def check_library(text, tree):
 
 
 def check_definitions(text):
-    folder = None
-    for line in text.split("\n"):
-        for name, path in re.findall(r"`([^`\s]+)` \(`([\w/]+\.(?:antt|rt))`\)", line):
-            body = read(f"crates/{path}")
-            if body is None:
-                yield f"{name}: no file {path}"
-            elif not re.search(rf"(?m)^\s*(?:unfoldable )?(?:pub )?(?:abbrev|record|data|syntax)?\s*(?:pub )?(?:struct |enum )?{re.escape(name)}(?!\w)", body):
-                yield f"{name} isn't defined in {path}"
+    for name, path in re.findall(r"`([^`\s]+)`\s+\(`([\w/]+\.(?:antt|rt))`\)", text):
+        body = read(f"crates/{path}")
+        if body is None:
+            yield f"{name}: no file {path}"
+        elif not re.search(rf"(?m)^(?:unfoldable )?(?:pub )?(?:abbrev|record|data|syntax) (?:pub )?{re.escape(name)}(?!\w)", body):
+            yield f"{name} isn't defined in {path}"
 
 
 def faults(path, tree):
