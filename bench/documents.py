@@ -112,7 +112,7 @@ def check_definitions(text):
         body = read(f"crates/{path}")
         if body is None:
             yield f"{name}: no file {path}"
-        elif not re.search(rf"(?m)^(?:unfoldable )?(?:pub )?(?:abbrev|record|data|syntax) (?:pub )?{re.escape(name)}(?!\w)", body):
+        elif not re.search(rf"(?m)^\s*(?:unfoldable )?(?:pub )?(?:abbrev|record|data|syntax) (?:pub )?{re.escape(name)}(?!\w)", body):
             yield f"{name} isn't defined in {path}"
 
 
