@@ -36,7 +36,8 @@ DATE = re.compile(r"\b20\d\d-\d\d-\d\d\b|\b(?:today|yesterday|that night|last we
 # Names of other projects' things, which stand nowhere in this tree.
 OTHERS = set(
     """anyhow_error Any Cow FuncValidator Hash IndexMut Deref BinaryReaderError CARGO_PKG_VERSION CustomSectionId ModuleDebugData MAP_SHARED
-    GLIBC_TUNABLES RT_JOBS FEROPUNA_QUIET and_then IsFinite emit_type_laws patch""".split()
+    GLIBC_TUNABLES RT_JOBS FEROPUNA_QUIET and_then IsFinite emit_type_laws patch iter_local_mut take_raw local_func TryFrom
+    from_file emit_wasm_file""".split()
 )
 
 
