@@ -75,7 +75,7 @@ class Tree:
 def fault_of(name, tree):
     """What is wrong with a name, or None."""
     name = name.strip()
-    if re.search(r"[\s(){}<>=;,|&\"'$+*]", name) or name.startswith(("-", ".")):
+    if re.search(r"[\s(){}<>=;,|&\"'$+*]|CRATE|NAME", name) or name.startswith(("-", ".")):
         return None
     if re.fullmatch(r"(?:crates/|bench/|bin/|docs/|wip/|wasm\w*/|walrus\w*/|rewriter\w*/|inspect\w*/|/opt/)[\w./-]*", name):
         return None if tree.has_path(name) else "no such file"
