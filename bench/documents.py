@@ -47,24 +47,29 @@ def words_of(text):
     return re.findall(r"`([^`\n]+)`", text)
 
 
+def words_in(path):
+    with open(path, encoding="utf-8", errors="replace") as file:
+        return set(re.findall(r"\w+", file.read()))
+
+
 class Tree:
     def __init__(self):
         self.crates = Crates()
-        paths = [p for kind in ("rt", "antt", "txt", "edit") for p in glob.glob(f"{ROOT}/crates/*/**/*.{kind}", recursive=True) if "/out/" not in p]
+        paths = [p for kind in ("rt", "antt") for p in glob.glob(f"{ROOT}/crates/*/*/**/*.{kind}", recursive=True) if "/out/" not in p]
         paths += glob.glob(f"{ROOT}/bench/**/*", recursive=True) + glob.glob(f"{ROOT}/bin/*") + [f"{ROOT}/crates.txt"]
-        texts = []
-        for path in paths:
-            if os.path.isfile(path) and not path.endswith("documents.py"):
-                with open(path, encoding="utf-8", errors="replace") as file:
-                    texts.append(file.read())
-        self.text = "\n".join(texts)
         self.files = {os.path.basename(p) for p in paths} | {os.path.basename(p).rsplit(".", 1)[0] for p in paths}
-        self.known = {}
+        # proofs are looked into for what is found nowhere else
+        self.words, self.proofs = set(self.files), []
+        for path in paths:
+            if "/proofs/" in path:
+                self.proofs.append(path)
+            elif os.path.isfile(path) and not path.endswith(("documents.py", "unjudged.txt")):
+                self.words.update(words_in(path))
 
     def has_word(self, word):
-        if word not in self.known:
-            self.known[word] = bool(re.search(rf"(?<!\w){re.escape(word)}(?!\w)", self.text)) if word in self.text else False
-        return self.known[word]
+        while word not in self.words and self.proofs:
+            self.words.update(words_in(self.proofs.pop()))
+        return word in self.words
 
     def has_path(self, path):
         path = path.rstrip("/")
