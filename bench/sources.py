@@ -40,7 +40,7 @@ def root_of(crate):
 def sentence(lines):
     """The first sentence of a comment."""
     text = " ".join(it.strip() for it in lines).strip()
-    return re.split(r"(?<=[.!?:])\s+(?=[A-Z`\[])|\s{2,}", text, maxsplit=1)[0]
+    return re.split(r"(?<=[.!?])\s+(?=[A-Z`\[])|\s{2,}", text, maxsplit=1)[0]
 
 
 def head(crate):
