@@ -9,10 +9,10 @@ ghost use Rattle.walrus_functions_into.specs.Functions.{AddsFunctions, AreTyped,
 
 use std::alloc::AllocError;
 use walrus_arena::{FunctionId, ImportId, TypeId};
-use walrus_index_maps::IndicesToIds;
 use walrus_collections::ModuleFunctions;
 use walrus_collections::local_function::LocalFunction;
 use walrus_collections::module_items::FunctionKind;
+use walrus_index_maps::IndicesToIds;
 use walrus_types_into::known_sections::Function;
 
 // Lets a live function be of this kind.
