@@ -1,6 +1,6 @@
 //! Adds, look-ups and deletes.
 use std::alloc::AllocError;
-use walrus_arena::{FunctionId, ImportId, TableId};
+use walrus_arena::{FunctionId, GlobalId, ImportId, TableId};
 use walrus_errors::ModuleError;
 use walrus_forms::RefType;
 use walrus_instr::ConstExpr;
@@ -25,6 +25,19 @@ pub fn finds_export(exports: &mut ModuleExports) -> Result<bool, AllocError> {
     }
     exports.delete(export);
     Ok(is_gone(exports, function))
+}
+
+/// Whether an export is found by its global, and by no other.
+pub fn finds_exported_global(exports: &mut ModuleExports) -> Result<bool, AllocError> {
+    let global = GlobalId::from_index(3);
+    let other = GlobalId::from_index(4);
+    exports.add("dummy", FunctionId::from_index(3))?;
+    let none = exports.get_exported_global(global).is_none();
+    exports.add("global", global)?;
+    Ok(
+        none && exports.get_exported_global(global).is_some()
+            && exports.get_exported_global(other).is_none(),
+    )
 }
 
 fn is_lowest(imports: &ModuleImports, import: ImportId) -> bool {

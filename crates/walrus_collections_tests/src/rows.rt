@@ -1,5 +1,7 @@
 //! Tests of whole modules. One function owns the module that all of them ask, since each that owns one is dear to prove.
-use crate::collections::{adds_with_element, finds_export, finds_lowest_import, gives_only_table};
+use crate::collections::{
+    adds_with_element, finds_export, finds_exported_global, finds_lowest_import, gives_only_table,
+};
 use crate::example::{are_as_given, are_counted, are_found, gives_only_memory};
 use crate::imported::{
     finds_import, finds_local_function, function_holds_its_body, items_name_their_imports,
@@ -24,6 +26,7 @@ enum Row {
     Import,
     // single collections
     FoundExport,
+    ExportedGlobal,
     LowestImport,
     OnlyTable,
     FirstElement,
@@ -45,6 +48,7 @@ fn is_met(row: Row, alloc: Global, module: &mut Module) -> Result<bool, AllocErr
         Row::EachExport => Ok(each_export_is_replaced(alloc, module)),
         Row::Import => Ok(import_is_replaced(module)),
         Row::FoundExport => finds_export(&mut module.exports),
+        Row::ExportedGlobal => finds_exported_global(&mut module.exports),
         Row::LowestImport => finds_lowest_import(&mut module.imports),
         Row::OnlyTable => gives_only_table(&mut module.tables),
         Row::FirstElement => adds_with_element(&mut module.tables),
@@ -62,7 +66,7 @@ fn holds(row: Row, alloc: Global) -> Result<bool, AllocError> {
     is_met(row, alloc, &mut module)
 }
 
-const ROWS: [Row; 16] = [
+const ROWS: [Row; 17] = [
     Row::Counted,
     Row::AsGiven,
     Row::Found,
@@ -71,6 +75,7 @@ const ROWS: [Row; 16] = [
     Row::EachExport,
     Row::Import,
     Row::FoundExport,
+    Row::ExportedGlobal,
     Row::LowestImport,
     Row::OnlyTable,
     Row::FirstElement,

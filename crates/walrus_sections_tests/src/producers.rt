@@ -69,12 +69,20 @@ fn is_copied(alloc: Global, fields: &[ProducerField]) -> Result<bool, AllocError
     Ok(first_is(&copies, 1, "sdk", "kit", "2"))
 }
 
+// Whether a copy stands by itself.
+fn are_copied(producers: &mut ModuleProducers) -> Result<bool, AllocError> {
+    let copy = producers.clone()?;
+    producers.clear();
+    Ok(first_is(copy.fields(), 1, "sdk", "kit", "2"))
+}
+
 // What is asked of producers.
 #[derive(Clone, Copy)]
 enum Ask {
     LanguageIsReplaced,
     EachRoleHasAField,
     FieldIsCopied,
+    AllAreCopied,
 }
 
 fn holds(alloc: Global, producers: &mut ModuleProducers, ask: Ask) -> Result<bool, AllocError> {
@@ -84,6 +92,10 @@ fn holds(alloc: Global, producers: &mut ModuleProducers, ask: Ask) -> Result<boo
         Ask::FieldIsCopied => {
             producers.add_sdk("kit", "2")?;
             is_copied(alloc, producers.fields())
+        }
+        Ask::AllAreCopied => {
+            producers.add_sdk("kit", "2")?;
+            are_copied(producers)
         }
     }
 }
@@ -99,6 +111,7 @@ fn producers_do_what_is_asked(rt: HostRuntime) {
         Ask::LanguageIsReplaced,
         Ask::EachRoleHasAField,
         Ask::FieldIsCopied,
+        Ask::AllAreCopied,
     ] {
         assert!(rt; is_so(rt.alloc(), ask) == Ok(true));
     }
