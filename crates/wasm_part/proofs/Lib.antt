@@ -1,0 +1,9 @@
+mod Agree
+pub mod Carried
+mod Closed
+mod Emitted
+mod Open
+mod Parts
+pub mod Picked
+mod Served
+mod Written
