@@ -2,6 +2,7 @@ mod Agree
 pub mod Carried
 mod Closed
 mod Emitted
+mod Handlers
 mod Open
 mod Parts
 pub mod Picked

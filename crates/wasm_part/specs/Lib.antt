@@ -1,6 +1,7 @@
 pub mod Agree
 pub mod Closed
 pub mod Emitted
+pub mod Handlers
 pub mod Kept
 pub mod Open
 pub mod Order

@@ -3,11 +3,16 @@
 ghost use Rattle.wasm_part.specs.Agree.{PartsAgree};
 ghost use Rattle.wasm_part.specs.Closed.{PartsAreRuled};
 ghost use Rattle.wasm_part.specs.Emitted.{EmittedTypesStand, ReadBackTypesLead};
+ghost use Rattle.wasm_part.specs.Handlers.{HandlersAreMissing};
 ghost use Rattle.wasm_part.specs.Kept.{KeptIsClosed, PickedTypesServe};
 ghost use Rattle.wasm_part.specs.Open.{SpelledBlocksOpen};
 ghost use Rattle.wasm_part.specs.Written.{KeptPartsAreRuled};
 
 use walrus_forms::laws::same_kind_is_equality;
+use walrus_types::laws::parsing_carries_same;
+use wasm_merged_modules::laws::new_kinds_stand_behind;
+use wasm_normal_modules::laws::normal_forms_of_read_modules_are_ruled;
+use wasm_ruled_normal::laws::normal_operators_are_ruled;
 
 /// An operator that has a spelling opens a block, or has no block type.
 pub fn blocks_open()
@@ -55,4 +60,14 @@ pub fn kept_parts_are_ruled()
     kept_is_closed();
     picked_types_serve();
     parts_are_ruled();
+}
+
+/// The types that the handlers of a file have and its merged types haven't name types that are there, and no type of the file has one of them.
+pub fn handlers_are_missing()
+    ensures { HandlersAreMissing }
+{
+    normal_operators_are_ruled();
+    new_kinds_stand_behind();
+    parsing_carries_same();
+    normal_forms_of_read_modules_are_ruled();
 }

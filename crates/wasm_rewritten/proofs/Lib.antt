@@ -1,5 +1,8 @@
 mod Calls
+mod Dense
+mod Listed
 mod Named
+mod Orderly
 mod Picks
 mod Rewritten
 mod Run

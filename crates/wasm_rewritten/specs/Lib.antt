@@ -1,3 +1,5 @@
+pub mod Dense
+pub mod Orderly
 pub mod Places
 pub mod Rewritten
 pub mod Runs

@@ -1,14 +1,17 @@
 //! Laws: functions with nothing to do but to call others, whose contracts hold of all modules.
 
+ghost use Rattle.wasm_rewritten.specs.Dense.{PartsAreDense};
+ghost use Rattle.wasm_rewritten.specs.Orderly.{ReadFilesAreOrderly};
 ghost use Rattle.wasm_rewritten.specs.Runs.{CallsAreKept, CorrespondingRuns, EntriesAreKept, KeptIsDecided, PicksKeepThrough, ReadFilesAreAsked, RewrittenRunsCorrespond, WrittenRunsTheSame, WrittenStandsNormal};
 
 use walrus_forms::laws::same_kind_is_equality;
+use wasm_import_links::laws::read_modules_link;
 use wasm_merged_modules::laws::{new_kinds_stand_behind, types_are_merged};
 use wasm_normal_form::laws::{normal_forms_are_normal, trees_are_one};
 use wasm_normal_modules::laws::{
     normal_forms_of_read_modules_are_ruled, numbered_operators_are_normal,
 };
-use wasm_part::laws::emitted_types_stand;
+use wasm_part::laws::{emitted_types_stand, handlers_are_missing};
 use wasm_ruled_normal::laws::normal_operators_are_ruled;
 use wasm_run_names::laws::block_types_keep_parameters_and_results;
 use wasm_runs::laws::each_run_has_one_trace;
@@ -67,6 +70,19 @@ pub fn rewritten_runs_correspond()
     ensures runs { RewrittenRunsCorrespond }
 {
     written_runs_the_same();
+    handlers_are_missing();
     new_kinds_stand_behind();
     normal_forms_of_read_modules_are_ruled();
+}
+
+/// The part of a module stands as a module does in a file: each slot is filled, and what imports bring comes first.
+pub fn parts_are_dense()
+    ensures { PartsAreDense }
+{}
+
+/// In a file's module, its bodies in normal form and its types merged, imports and items name one another, and imported globals come first.
+pub fn read_files_are_orderly()
+    ensures { ReadFilesAreOrderly }
+{
+    read_modules_link();
 }

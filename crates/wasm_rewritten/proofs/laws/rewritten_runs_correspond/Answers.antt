@@ -6,4 +6,4 @@ returns-clause-asked c = files_asked c.normal_forms_of_read_modules_are_ruled.en
 
 pub returns-clause-runs : goal.returns-clause-runs
 returns-clause-runs c =
-    rewritten_correspond (files_asked c.normal_forms_of_read_modules_are_ruled.ensures.rules c.new_kinds_stand_behind.ensures.behind c.new_kinds_stand_behind.ensures.missing) c.written_runs_the_same.ensures.correspond
+    rewritten_correspond (files_asked c.normal_forms_of_read_modules_are_ruled.ensures.rules c.new_kinds_stand_behind.ensures.behind c.new_kinds_stand_behind.ensures.missing) c.handlers_are_missing.ensures c.written_runs_the_same.ensures.correspond
