@@ -1,11 +1,10 @@
 -- Lemmas: modules in which the listed slots agree have one part.
-use Rattle.std.specs.Prelude.{ℕ, zero, suc, ◌≡◌, List, [], ◌∷◌, ◌++◌, map, Option, Some, None, slice_get, slice_index_or, refl}
+use Rattle.std.specs.Prelude.{ℕ, zero, suc, ◌≡◌, List, [], ◌∷◌, ◌++◌, map, Option, Some, None, slice_index_or, refl}
 use Rattle.std.specs.Option.{option_map}
 use Rattle.std.proofs.Common.{ap, ◌∙◌}
 use Rattle.wasm_operators.specs.Items.{Functions, Tables, Memories, Tags, Globals, ElementSegments, DataSegments}
-use Rattle.wasm_grammar.specs.Modules.{Element, Module}
-use Rattle.wasm_part.specs.Part.{Plan, declaring, part, picked, renumbered_element, renumbered_export, renumbered_function, renumbered_global, renumbered_import, renumbered_memory, renumbered_segment, renumbered_table, renumbered_tag}
-use Rattle.wasm_part.specs.Agree.{AgreeOn, PartsAgree, SlotsAgree}
+use Rattle.wasm_part.specs.Part.{declaring, picked, renumbered_element, renumbered_export, renumbered_function, renumbered_global, renumbered_import, renumbered_memory, renumbered_segment, renumbered_table, renumbered_tag}
+use Rattle.wasm_part.specs.Agree.{PartsAgree, SlotsAgree}
 
 picked_agree : {A : Type 0} (f : A → A) (ns : List ℕ) (xs ys : List (Option A)) → SlotsAgree ns xs ys → picked f ns xs ≡ picked f ns ys
 picked_agree f [] xs ys h = refl

@@ -9,7 +9,7 @@ use Rattle.walrus_forms.specs.declared.value.AbstractHeapType.{AbstractHeapType}
 use Rattle.walrus_forms.specs.declared.value.HeapType.TheVariants as words
 use Rattle.wasm_body_grammar.specs.Bodies.{frames_of}
 use Rattle.wasm_body_grammar.specs.Frames.{Frame, label_count, turned}
-use Rattle.wasm_body_grammar.specs.Rules.{Around, access_rule, data_test, first_in, form_rule, has_wide, has_words, is_segment, names_test, room, select_rule, words_rule}
+use Rattle.wasm_body_grammar.specs.Rules.{Around, access_rule, first_in, form_rule, has_wide, has_words, is_segment, room, select_rule, words_rule}
 use Rattle.wasm_formats.specs.Stops.{Bounds, Index, OffsetType, Position, Unsupported}
 use Rattle.wasm_formats.specs.declared.fault.Form.TheVariants as unsupported
 use Rattle.wasm_formats.specs.declared.fault.Space.TheVariants as spaces

@@ -1,9 +1,8 @@
 -- Lemmas: the part that has just what is kept is closed.
-use Rattle.std.specs.Prelude.{ℕ, zero, suc, ◌≡◌, ◌<◌, List, [], ◌∷◌, ◌++◌, length, map, Contains, Option, Some, None, slice_get, slice_index_or, refl}
+use Rattle.std.specs.Prelude.{ℕ, zero, suc, ◌≡◌, List, [], ◌∷◌, map, Contains, Option, Some, None, slice_get, slice_index_or, refl}
 use Rattle.std.specs.List.{AllByRecursion, flat_map}
 use Rattle.std.specs.Option.{option_to_list}
-use Rattle.std.proofs.Common.{ap, sym, ◌∙◌, subst, arith, inl, inr}
-use Rattle.walrus_forms.specs.declared.value.RefType.{RefType}
+use Rattle.std.proofs.Common.{ap, sym, subst, arith, inl, inr}
 use Rattle.walrus_forms.specs.declared.value.ValType.{ValType}
 use Rattle.walrus_forms.specs.Values.{ref_name, value_name}
 use Rattle.wasm_formats.specs.declared.fault.Space.{Space as FileSpace}
@@ -12,18 +11,16 @@ use Rattle.wasm_operators.specs.declared.block_type.BlockType.{BlockType}
 use Rattle.wasm_operators.specs.declared.block_type.BlockType.TheVariants as blocks
 use Rattle.wasm_operators.specs.Items.{Space, Types, Functions, Tables, Memories, Tags, Globals, ElementSegments, DataSegments, Locals, Labels, Item as Immediate, Names, Number, S32, S64, Bits, Byte, Bytes, Heap, Block, Access, ManyLabels, ManyValues, ManyClauses}
 use Rattle.wasm_operators.specs.Names.{Name, block_names, item_names, operator_names}
-use Rattle.wasm_operators.specs.Operators.{Seen}
-use Rattle.wasm_grammar.specs.Modules.{Item, Expr, Origin, Imported, Own, Placed, Body, Function, Table, Global, Tag, Mode, Passive, Declared, Active, Elements, Functions as Listed, Expressions, Element, Segment, Import, Export, Module}
-use Rattle.wasm_body_grammar.specs.Rules.{Around, space_of}
-use Rattle.wasm_references.specs.References.{Numbered, Refers, body_items, element_items, expr_items, function_items, global_items, held_items, init_items, item, local_items, mode_items, name_items, named_by, names_items, no_locals, origin_items, ref_items, segment_items, table_items, tag_items, value_items}
-use Rattle.wasm_references.specs.Roots.{Root, exports, starts}
-use Rattle.wasm_references.specs.Kept.{IsReached, IsSpared, Kept, refers, root}
+use Rattle.wasm_grammar.specs.Modules.{Item, Expr, Origin, Imported, Own, Placed, Body, Function, Mode, Passive, Declared, Active, Elements, Functions as Listed, Expressions}
+use Rattle.wasm_body_grammar.specs.Rules.{Around}
+use Rattle.wasm_references.specs.References.{Numbered, Refers, body_items, element_items, expr_items, function_items, global_items, held_items, init_items, item, mode_items, name_items, named_by, names_items, no_locals, origin_items, ref_items, segment_items, table_items, tag_items, value_items}
+use Rattle.wasm_references.specs.Roots.{exports, starts}
+use Rattle.wasm_references.specs.Kept.{IsReached, Kept, refers, root}
 use Rattle.wasm_ruled_normal.specs.Normal.{IsPicked}
-use Rattle.wasm_run_names.specs.Picks.{block_pick}
 use Rattle.wasm_ruled_normal.proofs.Tests.{all_split}
 use Rattle.wasm_part.specs.Part.{IsIn, Plan}
-use Rattle.wasm_part.specs.Closed.{BlockServes, BodyIn, SegmentCounts, ExprIn, InitIn, IsClosed, ItemIn, ItemsIn, ModeIn, NameIn, NumberIn, OperatorIn, OwnIn, PlacedIn, StartIn, TypeIn}
-use Rattle.wasm_part.specs.Kept.{BodyCounts, BodyPicked, HasKept, IsShared, KeptIsClosed, LocalsNamed, PicksServe}
+use Rattle.wasm_part.specs.Closed.{BlockServes, BodyIn, SegmentCounts, ExprIn, InitIn, IsClosed, ItemIn, ItemsIn, ModeIn, NameIn, NumberIn, OwnIn, PlacedIn, StartIn, TypeIn}
+use Rattle.wasm_part.specs.Kept.{BodyCounts, BodyPicked, HasKept, KeptIsClosed, LocalsNamed, PicksServe}
 
 -- ---- all that a list has
 

@@ -1,6 +1,6 @@
 -- Lemmas: types that are written stand at their places.
-use Rattle.std.specs.Prelude.{ℕ, zero, suc, ◌≡◌, ◌<◌, ◌+◌, Bool, true, false, List, [], ◌∷◌, ◌++◌, All, length, map, filter, Option, Some, None, slice_get, slice_index, refl, if◌then◌else◌}
-use Rattle.std.specs.List.{cons_option, filter_map, flat_map, range_with_len}
+use Rattle.std.specs.Prelude.{ℕ, zero, suc, ◌≡◌, ◌<◌, ◌+◌, List, [], ◌∷◌, ◌++◌, All, length, map, filter, Option, Some, None, slice_get, refl, if◌then◌else◌}
+use Rattle.std.specs.List.{cons_option, filter_map, range_with_len}
 use Rattle.std.specs.Option.{is_some}
 use Rattle.std.proofs.Common.{ap, sym, ◌∙◌, subst, arith}
 use Rattle.std.proofs.lemmas.List.FromFn.{get_or-range_with_len}
@@ -8,14 +8,12 @@ use Rattle.std.proofs.lemmas.List.Elements.{All-head, All-tail}
 use Rattle.walrus_forms.specs.Kinds.{Kind}
 use Rattle.walrus_forms.specs.Records.{TypeGroup}
 use Rattle.walrus_forms.specs.Renaming.{KindBelow, at, renamed_kind}
-use Rattle.walrus_types.specs.Emission.{IsEmission, described_group, index_at, is_written, written_in, written_kind, written_types}
+use Rattle.walrus_types.specs.Emission.{described_group, index_at, is_written, written_in, written_kind, written_types}
 use Rattle.walrus_types.specs.Items.{Group}
 use Rattle.walrus_types.specs.Parsing.{AreBelow as WalrusBelow}
 use Rattle.walrus_types.specs.Table.{Table}
 use Rattle.walrus_types.proofs.BelowLemmas.{groups-below}
-use Rattle.wasm_body_grammar.specs.Rules.{leads}
-use Rattle.wasm_grammar.specs.Modules.{Module}
-use Rattle.wasm_merged_modules.specs.Merged.{ids_of, kinds_of}
+use Rattle.wasm_merged_modules.specs.Merged.{kinds_of}
 use Rattle.wasm_merged_modules.proofs.Merged.{alone_leads}
 use Rattle.wasm_modules.specs.Modules.{same_of}
 use Rattle.wasm_ruled_modules.specs.Rules.{AreBelow, GroupsBelow}

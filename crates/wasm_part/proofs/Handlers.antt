@@ -1,7 +1,7 @@
 -- Lemmas: what handlers of legacy `try`s take and give names types of the file, so that the types that are lacking for them are missing ones.
-use Rattle.std.specs.Prelude.{ℕ, ◌≡◌, ◌≤◌, ◌<◌, ◌+◌, Bool, true, false, List, [], ◌∷◌, length, map, filter, All, IfSome, zero, suc, Option, Some, None, slice_get, slice_index_or, refl}
+use Rattle.std.specs.Prelude.{ℕ, not, ◌&&◌, ◌≡◌, ◌≤◌, ◌<◌, ◌+◌, Bool, true, false, List, [], ◌∷◌, length, map, filter, All, IfSome, zero, suc, Option, Some, None, slice_get, slice_index_or, refl}
 use Rattle.std.specs.List.{AllByRecursion, flat_map}
-use Rattle.std.specs.Option.{is_none, option_and_then, option_map, option_or}
+use Rattle.std.specs.Option.{is_none, option_and_then, option_map}
 use Rattle.std.proofs.Common.{cond, subst, arith}
 use Rattle.std.proofs.lemmas.List.{length-append}
 use Rattle.std.proofs.lemmas.List.Elements.{All-cons, All-head, All-nil, All-tail}

@@ -1,5 +1,5 @@
 -- Operators with a block type open a block, by the rows of the table.
-use Rattle.std.proofs.Common.{ℕ, ◌≡◌, ◌==◌, Bool, true, false, ◌&&◌, nat_le, nat_lt, List, [], ◌∷◌, ◌++◌, refl, sym, ap, subst, ◌∙◌, if◌then◌else◌, inl, inr}
+use Rattle.std.proofs.Common.{ℕ, ◌≡◌, ◌==◌, Bool, true, false, ◌&&◌, nat_le, nat_lt, List, [], ◌∷◌, refl, sym, subst, if◌then◌else◌, inl, inr}
 use Rattle.std.specs.Prelude.{Option, Some, None, ◌⊎◌}
 use Rattle.std.specs.List.{AllByRecursion, list_all}
 use Rattle.wasm_features.specs.declared.WasmFeatures.{WasmFeatures}
@@ -12,8 +12,8 @@ use Rattle.wasm_operators.specs.declared.entry.Kind.{Kind}
 use Rattle.wasm_operators.specs.declared.entry.Kind.TheVariants as kinds
 use Rattle.wasm_operators.specs.Kinds.{forms}
 use Rattle.wasm_operators.specs.Table.{Row, find, find_byte, find_code, structure_rows, call_rows, plain_rows, fb_rows, fc_rows, fd_rows, fe_rows}
-use Rattle.wasm_operators.specs.Operators.{Seen, is_on, kind_of, allowed, flow_in}
-use Rattle.wasm_normal_form.specs.Roles.{Opens, role, role_in}
+use Rattle.wasm_operators.specs.Operators.{is_on, kind_of, allowed, flow_in}
+use Rattle.wasm_normal_form.specs.Roles.{Opens, role_in}
 use Rattle.wasm_part.specs.Open.{IsNoBlock, SpelledBlocksOpen}
 
 -- the flow opens a block

@@ -10,7 +10,7 @@ use Rattle.std.proofs.lemmas.Option.{slice_get_within}
 use Rattle.walrus_forms.specs.Forms.{Form, FunctionForm, StructForm, ArrayForm, params_of}
 use Rattle.walrus_forms.specs.Kinds.{Kind}
 use Rattle.walrus_forms.specs.Renaming.{HeapBelow, RefBelow, ValueBelow, renamed_form, renamed_heap, renamed_kind, renamed_value}
-use Rattle.walrus_forms.specs.Values.{heap_name, ref_name, value_name}
+use Rattle.walrus_forms.specs.Values.{heap_name, value_name}
 use Rattle.walrus_forms.specs.declared.value.HeapType.{HeapType}
 use Rattle.walrus_forms.specs.declared.value.HeapType.TheVariants.{Abstract, Concrete, Exact}
 use Rattle.walrus_forms.specs.declared.value.ValType.{ValType}
@@ -24,7 +24,7 @@ use Rattle.wasm_formats.specs.Stops.{TypeForm}
 use Rattle.wasm_formats.specs.declared.fault.Space.{Space as FileSpace}
 use Rattle.wasm_formats.specs.declared.fault.Space.TheVariants as spaces
 use Rattle.wasm_grammar.specs.Exprs.{Known, global_is, is_address, offset_test}
-use Rattle.wasm_grammar.specs.Modules.{Item, Expr, Origin, Imported, Own, Body, Function, Table, Memory, Global, Tag, Mode, Passive, Declared, Active, Elements, Functions as Listed, Expressions, Element, Segment, Import, Export, Module}
+use Rattle.wasm_grammar.specs.Modules.{Expr, Origin, Imported, Own, Body, Function, Table, Memory, Global, Tag, Mode, Passive, Declared, Active, Elements, Functions as Listed, Expressions, Element, Segment, Import, Export, Module}
 use Rattle.wasm_grammar.specs.States.{count_of, form_test, is_function, types_of}
 use Rattle.wasm_grammar.specs.Values.{in_order, must}
 use Rattle.wasm_operators.specs.Items.{Space, Types, Functions, Tables, Memories, Tags, Globals, ElementSegments, DataSegments, Locals, Labels}
@@ -32,12 +32,11 @@ use Rattle.wasm_operators.specs.Names.{Renaming}
 use Rattle.wasm_sections.specs.Exports.{has_name}
 use Rattle.wasm_sections.specs.Segments.{wide_table, wide_memory}
 use Rattle.wasm_module_rules.specs.Linked.{AllBelow, AreDistinct, AreListed, Each, GoesInto, IsBelow, IsFresh, IsFunctionType, IsLimited, IsLinked, IsThere}
-use Rattle.wasm_ruled_modules.specs.Rules.{AreExpressed, AreExprs, AreNamed, AreOperators, GlobalsSee, HasBody, IsBody, IsExpr, IsInit, IsPageSize, IsPlaced, ItemsBelow, ItemsKnown, LocalsBelow, OriginRuled, Sees, around_bodies, bare_slot, is_imported, knows, knows_imported, memory_wide, own_init, table_wide}
-use Rattle.wasm_normal_modules.specs.Modules.{MeetsRules}
+use Rattle.wasm_ruled_modules.specs.Rules.{AreExpressed, AreExprs, AreNamed, AreOperators, GlobalsSee, HasBody, IsBody, IsInit, IsPageSize, IsPlaced, ItemsBelow, ItemsKnown, LocalsBelow, OriginRuled, Sees, around_bodies, bare_slot, is_imported, knows, knows_imported, memory_wide, own_init, table_wide}
 use Rattle.wasm_part.specs.Part.{IsIn, Plan, declaring, number_in, part, picked, renumbered_body, renumbered_element, renumbered_export, renumbered_expr, renumbered_function, renumbered_global, renumbered_import, renumbered_items, renumbered_memory, renumbered_mode, renumbered_own, renumbered_placed, renumbered_segment, renumbered_table, renumbered_tag}
-use Rattle.wasm_part.specs.Closed.{BodyIn, ExprIn, InitIn, IsClosed, IsListed, IsPlan, ItemIn, ItemsIn, ModeIn, OwnIn, PartsAreRuled, Rise, StartIn, TypeIn, TypeStands}
+use Rattle.wasm_part.specs.Closed.{BodyIn, ExprIn, InitIn, IsClosed, IsPlan, ItemIn, ItemsIn, ModeIn, OwnIn, PartsAreRuled, Rise, StartIn, TypeIn}
 use Rattle.wasm_part.proofs.Carried.{CarriesOver, IsThereIn, KnowsPart, expr_carried, offset_carried, operators_carried}
-use Rattle.wasm_part.proofs.Picked.{each_at, each_joined, each_picked, picked_at, slot_there, some_same}
+use Rattle.wasm_part.proofs.Picked.{each_at, each_joined, each_picked, picked_at, some_same}
 
 -- ---- types
 

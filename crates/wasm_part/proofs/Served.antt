@@ -1,26 +1,23 @@
 -- Lemmas: block types that are their own picks have picks in the part.
-use Rattle.std.specs.Prelude.{ℕ, zero, suc, ◌≡◌, ◌<◌, ◌+◌, ◌⊎◌, ◌&&◌, Bool, true, false, List, [], ◌∷◌, length, map, Option, Some, None, slice_get, refl, if◌then◌else◌, unwrap_or}
+use Rattle.std.specs.Prelude.{ℕ, zero, suc, ◌≡◌, ◌+◌, ◌⊎◌, ◌&&◌, Bool, true, false, List, [], ◌∷◌, map, Option, Some, None, slice_get, refl, if◌then◌else◌, unwrap_or}
 use Rattle.std.specs.Option.{is_some, option_map}
-use Rattle.std.proofs.Common.{ap, sym, ◌∙◌, subst, arith, inl, inr}
+use Rattle.std.proofs.Common.{ap, sym, ◌∙◌, arith, inl, inr}
 use Rattle.std.proofs.lemmas.Option.{slice_get_within}
 use Rattle.walrus_forms.specs.Forms.{Form, FunctionForm, StructForm, ArrayForm}
 use Rattle.walrus_forms.specs.Kinds.{Kind, function_kind}
 use Rattle.walrus_forms.specs.Renaming.{renamed_kind, renamed_value}
-use Rattle.walrus_forms.specs.Same.{SameKindIsEquality, same_kind}
+use Rattle.walrus_forms.specs.Same.{SameKindIsEquality}
 use Rattle.walrus_forms.specs.declared.value.ValType.{ValType}
 use Rattle.wasm_formats.specs.Stops.{TypeForm}
-use Rattle.wasm_operators.specs.declared.block_type.BlockType.{BlockType}
 use Rattle.wasm_operators.specs.declared.block_type.BlockType.TheVariants as blocks
 use Rattle.wasm_operators.specs.Items.{Types}
-use Rattle.wasm_grammar.specs.Modules.{Module}
 use Rattle.wasm_grammar.specs.States.{types_of}
 use Rattle.wasm_body_grammar.specs.Rules.{Around, block_test, form_test, found_in, kind_test, latest_from, leads, pick, serves}
 use Rattle.wasm_module_rules.specs.Keeps.{and_both, must_holds}
 use Rattle.wasm_ruled_modules.specs.Rules.{around_bodies}
 use Rattle.wasm_ruled_normal.proofs.Tests.{holds_must}
 use Rattle.wasm_run_names.specs.Picks.{block_pick, form_pick, kind_pick}
-use Rattle.wasm_part.specs.Part.{IsIn, Plan, part}
-use Rattle.wasm_part.specs.Closed.{TypeStands}
+use Rattle.wasm_part.specs.Part.{part}
 use Rattle.wasm_part.specs.Kept.{PickedTypesServe}
 use Rattle.wasm_part.proofs.Picked.{some_same}
 

@@ -1,25 +1,18 @@
 -- Lemmas: the kept part is ruled.
-use Rattle.std.specs.Prelude.{ℕ, zero, suc, ◌≡◌, ◌<◌, Bool, true, List, [], ◌∷◌, length, map, filter, Option, Some, None, slice_get, slice_index_or, refl}
+use Rattle.std.specs.Prelude.{ℕ, zero, suc, ◌≡◌, ◌<◌, true, List, [], ◌∷◌, length, filter, Option, Some, None, slice_get, slice_index_or, refl}
 use Rattle.std.specs.Option.{option_map}
 use Rattle.std.proofs.Common.{ap, sym, ◌∙◌, subst, arith}
-use Rattle.walrus_forms.specs.Kinds.{Kind}
-use Rattle.walrus_forms.specs.Records.{TypeGroup}
 use Rattle.walrus_forms.specs.Renaming.{renamed_kind}
-use Rattle.walrus_types.specs.Emission.{index_at}
-use Rattle.walrus_types.specs.Table.{Table}
-use Rattle.wasm_features.specs.declared.WasmFeatures.{WasmFeatures}
-use Rattle.wasm_operators.specs.Items.{Space, Types, Functions, Globals}
+use Rattle.wasm_operators.specs.Items.{Types, Globals}
 use Rattle.wasm_operators.specs.Names.{Renaming}
-use Rattle.wasm_grammar.specs.Modules.{Expr, Origin, Imported, Own, Global, Item, Module}
-use Rattle.wasm_grammar.specs.States.{types_of}
+use Rattle.wasm_grammar.specs.Modules.{Expr, Origin, Imported, Own, Global}
 use Rattle.wasm_merged_modules.specs.Merged.{kinds_of}
-use Rattle.wasm_references.specs.References.{Numbered}
 use Rattle.wasm_ruled_modules.specs.Rules.{around_bodies, is_imported}
-use Rattle.wasm_part.specs.Part.{IsIn, Plan, part, picked, renumbered_expr, renumbered_global, renumbered_own}
+use Rattle.wasm_part.specs.Part.{IsIn, part, picked, renumbered_expr, renumbered_global, renumbered_own}
 use Rattle.wasm_part.specs.Closed.{IsPlan, PartsAreRuled, Rise, TypeStands}
 use Rattle.wasm_part.specs.Kept.{KeptIsClosed, PickedTypesServe}
 use Rattle.wasm_part.specs.Emitted.{EmittedTypesStand, ReadBackTypesLead}
-use Rattle.wasm_part.specs.Written.{GlobalsFirst, KeptPartsAreRuled, WritesKept}
+use Rattle.wasm_part.specs.Written.{KeptPartsAreRuled}
 
 some_same : {A : Type 0} (x y : A) → (let some : A → Option A = λ x. Some x in some x ≡ some y) → x ≡ y
 some_same x y e = cc

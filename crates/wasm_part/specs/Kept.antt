@@ -1,7 +1,6 @@
 -- The part that has just what is kept of a module is closed, and block types that are their own picks have picks there.
 use Rattle.std.specs.Prelude.{ℕ, ◌≡◌, ◌<◌, Bool, true, List, length, Contains, Option, Some, None, IsSome, slice_get, slice_index_or}
 use Rattle.std.specs.List.{AllByRecursion, flat_map}
-use Rattle.walrus_forms.specs.declared.value.ValType.{ValType}
 use Rattle.wasm_features.specs.declared.WasmFeatures.{WasmFeatures}
 use Rattle.wasm_formats.specs.declared.fault.Space.TheVariants as spaces
 use Rattle.wasm_operators.specs.declared.block_type.BlockType.TheVariants as blocks

@@ -5,7 +5,7 @@ use Rattle.wasm_formats.specs.declared.fault.Space.{Space as FileSpace}
 use Rattle.wasm_formats.specs.declared.fault.Space.TheVariants as spaces
 use Rattle.wasm_operators.specs.Items.{Space, Functions, Tables, Memories, Tags, Globals, ElementSegments, Names}
 use Rattle.wasm_operators.specs.Operators.{Seen, op_code}
-use Rattle.wasm_grammar.specs.Modules.{Expr, Origin, Imported, Own, Placed, Body, Function, Table, Memory, Global, Tag, Elements, Functions as Listed, Expressions, Element, Import, Export, Module}
+use Rattle.wasm_grammar.specs.Modules.{Expr, Origin, Imported, Own, Placed, Body, Function, Global, Elements, Functions as Listed, Expressions, Element, Import, Export, Module}
 use Rattle.wasm_body_grammar.specs.Rules.{space_of}
 use Rattle.wasm_import_links.specs.Links.{brought}
 use Rattle.wasm_normal_form.specs.Normal.{size}

@@ -6,14 +6,14 @@ use Rattle.walrus_forms.specs.Kinds.{Kind}
 use Rattle.walrus_types.specs.Emission.{IsEmission, index_at, written_kind, written_types}
 use Rattle.walrus_types.specs.Table.{Table}
 use Rattle.wasm_features.specs.declared.WasmFeatures.{WasmFeatures}
-use Rattle.wasm_operators.specs.Items.{Space, Types, Functions, Globals, DataSegments, Locals, Labels}
+use Rattle.wasm_operators.specs.Items.{Space, Types, Functions, Globals, Locals, Labels}
 use Rattle.wasm_grammar.specs.Modules.{Function, Item, Module}
 use Rattle.wasm_grammar.specs.States.{types_of}
 use Rattle.wasm_merged_modules.specs.Merged.{ids_of, kinds_of}
 use Rattle.wasm_normal_modules.specs.Modules.{MeetsRules}
 use Rattle.wasm_references.specs.References.{Numbered}
 use Rattle.wasm_ruled_modules.specs.Rules.{around_bodies, is_imported}
-use Rattle.wasm_part.specs.Part.{IsIn, Plan, part}
+use Rattle.wasm_part.specs.Part.{Plan, part}
 use Rattle.wasm_part.specs.Closed.{IsListed, Rise}
 use Rattle.wasm_part.specs.Kept.{BodyCounts, BodyPicked, HasKept, LocalsNamed}
 
