@@ -1,7 +1,6 @@
 -- Lemmas: the entries that are due to imports are formed.
-use Rattle.std.specs.Prelude.{ℕ, zero, suc, ◌≡◌, ◌<◌, ◌+◌, Bool, true, false, not, nat_lt, List, [], ◌∷◌, length, map, Option, Some, None, slice_index_or, refl}
-use Rattle.std.specs.Option.{is_some as is_there}
-use Rattle.std.proofs.Common.{ap, sym, ◌∙◌, subst, arith}
+use Rattle.std.specs.Prelude.{ℕ, zero, suc, ◌≡◌, Bool, true, false, nat_lt, List, [], ◌∷◌, length, map, Option, Some, None, slice_index_or, refl}
+use Rattle.std.proofs.Common.{sym, subst}
 use Rattle.walrus_forms.specs.Renaming.{RefBelow, ValueBelow}
 use Rattle.wasm_features.specs.declared.WasmFeatures.{WasmFeatures}
 use Rattle.wasm_formats.specs.declared.fault.Space.{Space}

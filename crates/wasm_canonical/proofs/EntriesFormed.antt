@@ -1,37 +1,32 @@
 -- Lemmas: entries that are due to a module that meets the rules are formed.
-use Rattle.std.specs.Prelude.{ℕ, zero, suc, ◌≡◌, ◌<◌, ◌≤◌, ◌+◌, ◌==◌, ◌&&◌, ◌||◌, ◌⊎◌, Bool, true, false, not, nat_lt, List, [], ◌∷◌, ◌++◌, filter, length, map, Option, Some, None, refl}
-use Rattle.std.specs.List.{AllByRecursion, cons_option, filter_map}
-use Rattle.std.specs.Option.{is_some as is_there}
-use Rattle.std.proofs.Common.{ap, sym, ◌∙◌, subst, arith, inl, inr}
-use Rattle.std.proofs.lemmas.List.{append_assoc, length-append}
+use Rattle.std.specs.Prelude.{ℕ, ◌≡◌, ◌<◌, ◌≤◌, ◌+◌, Bool, true, false, nat_lt, List, [], ◌∷◌, ◌++◌, filter, length, map, Option, Some, None, refl}
+use Rattle.std.specs.List.{cons_option, filter_map}
+use Rattle.std.proofs.Common.{ap, sym, ◌∙◌, subst, arith}
+use Rattle.std.proofs.lemmas.List.{length-append}
 use Rattle.walrus_forms.specs.Renaming.{RefBelow, ValueBelow}
 use Rattle.wasm_features.specs.declared.WasmFeatures.{WasmFeatures}
 use Rattle.wasm_formats.specs.declared.fault.Space.{Space}
 use Rattle.wasm_formats.specs.declared.fault.Space.TheVariants as spaces
-use Rattle.wasm_formats.specs.Stops.{Bounds}
-use Rattle.wasm_formats.specs.Bytes.{either, either_type}
-use Rattle.wasm_formats.specs.Parts.{optional}
-use Rattle.wasm_formats.specs.Wholes.{u32}
 use Rattle.wasm_grammar.specs.Exprs.{Known}
 use Rattle.wasm_grammar.specs.Modules.{Expr, Origin, Imported, Own, Table, Memory, Global, Export, Module, empty}
 use Rattle.wasm_grammar.specs.States.{State, count_of, nothing_yet, types_of}
-use Rattle.wasm_grammar.specs.Values.{Limits, has_maximum, in_order, is_shared, is_some, is_wide, limits, must, table_limits, u64}
-use Rattle.wasm_sections.specs.Entities.{GlobalEntry, MemoryType, TableEntry, TableType, global_entry, memory_entry, table_entry}
-use Rattle.wasm_sections.specs.Exports.{ExportEntry, export_entry, kind_space}
+use Rattle.wasm_grammar.specs.Values.{in_order, limits, table_limits}
+use Rattle.wasm_sections.specs.Entities.{TableType, global_entry, memory_entry, table_entry}
+use Rattle.wasm_sections.specs.Exports.{export_entry, kind_space}
 use Rattle.wasm_module_bytes.specs.Due.{EntriesTell, IsExported, bit, export_from, global_from, memory_from, space_kind, table_from}
 use Rattle.wasm_module_rules.specs.Entries.{AllRuled}
 use Rattle.wasm_module_rules.specs.Linked.{Each, IsLimited, IsThere}
 use Rattle.wasm_module_spellings.specs.Spelled.{IsFormed}
-use Rattle.wasm_module_spellings.proofs.Values.{below_passes, expr_ruled, first_passes, must_pass, ref_ruled, value_ruled, with_room}
-use Rattle.wasm_ruled_modules.specs.Rules.{GlobalsSee, IsExpr, IsInit, IsPageSize, IsRuled, Sees, is_imported, knows_imported, own_init}
+use Rattle.wasm_module_spellings.proofs.Values.{below_passes, expr_ruled, must_pass, ref_ruled, value_ruled, with_room}
+use Rattle.wasm_ruled_modules.specs.Rules.{GlobalsSee, IsExpr, IsInit, IsPageSize, is_imported, knows_imported, own_init}
 use Rattle.wasm_canonical.specs.Due.{if_own, items_in, of_init, own_global, own_memory, own_table}
 use Rattle.wasm_canonical.specs.Due.{global_entry as own_of}
-use Rattle.wasm_canonical.specs.Dense.{AreThere, IsDense}
+use Rattle.wasm_canonical.specs.Dense.{AreThere}
 use Rattle.wasm_canonical.specs.Dense.{none_brought}
 use Rattle.wasm_canonical.proofs.Brought.{holds_typed, imports_formed}
 use Rattle.wasm_canonical.proofs.Grouped.{groups_formed}
 use Rattle.wasm_canonical.proofs.Limits.{memory_limits_ruled, table_limits_ruled}
-use Rattle.wasm_canonical.specs.EntriesFormed.{DueEntriesAreFormed, EntriesFormed}
+use Rattle.wasm_canonical.specs.EntriesFormed.{DueEntriesAreFormed}
 
 -- ---- entries of own items
 

@@ -1,5 +1,5 @@
 -- Lemmas: what the sections that are due to a module leave, one behind the other.
-use Rattle.std.specs.Prelude.{ℕ, zero, suc, ◌≡◌, ◌+◌, Bool, true, false, List, [], ◌∷◌, ◌++◌, length, map, drop, Option, Some, None, slice_index_or, refl}
+use Rattle.std.specs.Prelude.{ℕ, ◌≡◌, ◌+◌, Bool, true, false, List, [], ◌∷◌, ◌++◌, length, map, drop, Option, Some, None, slice_index_or, refl}
 use Rattle.std.specs.List.{AllByRecursion, cons_option, filter_map, fold}
 use Rattle.std.proofs.Common.{ap, sym, ◌∙◌, subst, arith, inl, inr}
 use Rattle.std.proofs.Math.Seq.{drop-append_seam}
@@ -12,18 +12,18 @@ use Rattle.wasm_grammar.specs.Modules.{Expr, Origin, Imported, Own, Body, Functi
 use Rattle.wasm_grammar.specs.States.{Chunk, State, nothing_yet}
 use Rattle.wasm_body_grammar.specs.Codes.{own_type}
 use Rattle.wasm_ruled_modules.specs.Rules.{bare, bare_slot, table_wide}
-use Rattle.wasm_sections.specs.Entities.{Entity, FunctionOf, TableOf, MemoryOf, GlobalOf, TagOf, ImportEntry, TableEntry, TableType, MemoryType, TagType, GlobalEntry, add_function, add_global, add_import, add_memory, add_table, add_tag, global_of, memory_of, no_body, table_of}
+use Rattle.wasm_sections.specs.Entities.{Entity, TableEntry, TableType, MemoryType, TagType, GlobalEntry, add_function, add_global, add_import, add_memory, add_table, add_tag, global_of, memory_of, no_body, table_of}
 use Rattle.wasm_sections.specs.Exports.{ExportEntry, add_export, kind_space}
 use Rattle.wasm_sections.specs.Segments.{DataEntry, ElementEntry, add_data, add_element, element_of, segment_of}
-use Rattle.wasm_sections.specs.Sections.{ChunkEntry, Section, SectionEntry, CustomSection, TypeSection, ImportSection, FunctionSection, TableSection, MemorySection, TagSection, GlobalSection, ExportSection, StartSection, ElementSection, DataCountSection, CodeSection, DataSection, chunk_of, next, put}
-use Rattle.wasm_sections.specs.TypeSection.{GroupEntry, add_group, type_group}
+use Rattle.wasm_sections.specs.Sections.{Section, SectionEntry, TypeSection, ImportSection, FunctionSection, TableSection, MemorySection, TagSection, GlobalSection, ExportSection, ElementSection, DataSection, chunk_of, next, put}
+use Rattle.wasm_sections.specs.TypeSection.{add_group, type_group}
 use Rattle.wasm_sections.specs.Modules.{state_of}
 use Rattle.wasm_section_bytes.specs.Files.{bodies_of}
 use Rattle.wasm_section_bytes.specs.Flags.{FlagsTell, IsNotDeclared, entry_of_element, entry_of_segment}
-use Rattle.wasm_module_bytes.specs.Due.{EntriesTell, IsExported, IsWritten, export_from, global_from, group_from, memory_from, space_kind, table_from}
-use Rattle.wasm_canonical.specs.Due.{chunk_due, code_if, count_if, custom_due, entity_due, function_due, global_due, global_entry, if_own, import_due, items_in, memory_due, of_init, own_global, own_memory, own_table, own_tag, section_if, sections_due, standard_due, start_if, table_due, tag_due}
+use Rattle.wasm_module_bytes.specs.Due.{EntriesTell, IsExported, IsWritten, export_from, global_from, group_from, memory_from, table_from}
+use Rattle.wasm_canonical.specs.Due.{chunk_due, code_if, count_if, custom_due, function_due, global_due, global_entry, if_own, import_due, items_in, memory_due, of_init, own_global, own_memory, own_table, own_tag, section_if, sections_due, standard_due, start_if, table_due, tag_due}
 use Rattle.wasm_canonical.specs.Dense.{AreThere, BringAll, Brings, Counts, DueSectionsFill, IsDense, IsOwnFunction, IsOwnGlobal, IsOwnMemory, IsOwnTable, IsOwnTag, LeavesModule, all_of, bodies_if, brought, count_of, none_brought, one_more}
-use Rattle.wasm_canonical.proofs.Folds.{Grows, agrees, customs_grow, elements_grow, exports_grow, fold_grows, functions_grow, globals_grow, groups_grow, memories_grow, section_leaves, segments_grow, tables_grow, tags_grow}
+use Rattle.wasm_canonical.proofs.Folds.{Grows, agrees, elements_grow, exports_grow, fold_grows, functions_grow, globals_grow, groups_grow, memories_grow, section_leaves, segments_grow, tables_grow, tags_grow}
 
 -- ---- states at which a module stands
 

@@ -1,12 +1,12 @@
 -- Lemmas: what a list of entries leaves that each append something to a list of the module.
-use Rattle.std.specs.Prelude.{ℕ, ◌≡◌, List, [], ◌∷◌, ◌++◌, length, map, drop, Option, Some, None, refl}
-use Rattle.std.specs.List.{AllByRecursion, filter_map, fold}
+use Rattle.std.specs.Prelude.{ℕ, ◌≡◌, List, [], ◌∷◌, ◌++◌, map, refl}
+use Rattle.std.specs.List.{fold}
 use Rattle.std.proofs.Common.{ap, sym, ◌∙◌}
 use Rattle.std.proofs.lemmas.List.{append_assoc, append-nil}
 use Rattle.wasm_grammar.specs.Modules.{Module}
 use Rattle.wasm_grammar.specs.States.{State}
-use Rattle.wasm_sections.specs.Sections.{Section, SectionEntry, id_of, next, put}
-use Rattle.wasm_canonical.specs.Due.{entry, section_if}
+use Rattle.wasm_sections.specs.Sections.{Section, next, put}
+use Rattle.wasm_canonical.specs.Due.{section_if}
 
 -- ---- a module with more in one of its lists
 

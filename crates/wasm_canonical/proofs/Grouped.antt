@@ -1,8 +1,8 @@
 -- Lemmas: the entries that are due to groups of types are formed.
-use Rattle.wasm_features.specs.Features.{GcTypes, enables, constant, features_of}
-use Rattle.std.specs.Prelude.{ℕ, zero, suc, ◌≡◌, ◌<◌, ◌≤◌, ◌+◌, Bool, true, false, List, [], ◌∷◌, ◌++◌, length, map, Option, Some, None, nat_le, refl}
-use Rattle.std.specs.List.{AllByRecursion, cons_option, filter_map, flat_map}
-use Rattle.std.proofs.Common.{ap, sym, ◌∙◌, subst, arith, inl, inr}
+use Rattle.wasm_features.specs.Features.{GcTypes, enables}
+use Rattle.std.specs.Prelude.{ℕ, ◌≡◌, ◌≤◌, ◌+◌, Bool, true, false, List, [], ◌∷◌, ◌++◌, length, map, Option, nat_le, refl}
+use Rattle.std.specs.List.{AllByRecursion, cons_option, flat_map}
+use Rattle.std.proofs.Common.{ap, sym, ◌∙◌, subst, arith}
 use Rattle.std.proofs.lemmas.Bool.{le-leb}
 use Rattle.std.proofs.lemmas.List.{length-append, length-map}
 use Rattle.std.proofs.lemmas.List.Concat.{flat_map-append}
@@ -11,11 +11,11 @@ use Rattle.walrus_forms.specs.Records.{TypeGroup}
 use Rattle.wasm_features.specs.declared.WasmFeatures.{WasmFeatures}
 use Rattle.wasm_formats.specs.Bytes.{either_type}
 use Rattle.wasm_formats.specs.Lists.{EntryRules}
-use Rattle.wasm_grammar.specs.Modules.{Module, empty}
+use Rattle.wasm_grammar.specs.Modules.{empty}
 use Rattle.wasm_grammar.specs.States.{State, nothing_yet}
 use Rattle.wasm_sections.specs.TypeNames.{kind_of}
 use Rattle.wasm_formats.specs.Led.{led}
-use Rattle.wasm_sections.specs.TypeSection.{GroupEntry, Measured, behind, explicit, group, is_told, measured, members, placed, rectype, single, sub_apart, sub_some, sub_wants}
+use Rattle.wasm_sections.specs.TypeSection.{Measured, behind, explicit, group, is_told, measured, members, placed, rectype, single, sub_apart, sub_some, sub_wants}
 use Rattle.wasm_module_bytes.specs.Due.{AreWritten, EntriesTell, IsWritten, group_from, shaped, sub_from}
 use Rattle.wasm_module_rules.specs.Entries.{AllRuled}
 use Rattle.wasm_module_spellings.specs.Spelled.{IsFormed}

@@ -10,7 +10,7 @@ use Rattle.wasm_ruled_modules.specs.Rules.{table_wide}
 use Rattle.wasm_sections.specs.Sections.{Section, SectionEntry, TypeSection, ImportSection, FunctionSection, TableSection, MemorySection, TagSection, GlobalSection, ExportSection, ElementSection, DataSection, id_of, next, order_test}
 use Rattle.wasm_section_bytes.specs.Flags.{entry_of_element, entry_of_segment}
 use Rattle.wasm_module_bytes.specs.Due.{export_from, group_from}
-use Rattle.wasm_canonical.specs.Due.{code_if, count_if, custom_due, entry, import_due, items_in, own_global, own_memory, own_table, own_tag, section_if, sections_due, standard_due, start_if}
+use Rattle.wasm_canonical.specs.Due.{code_if, count_if, custom_due, entry, import_due, items_in, own_global, own_memory, own_table, own_tag, section_if, standard_due, start_if}
 use Rattle.wasm_canonical.specs.Ordered.{AreOrdered, DueSectionsAreOrdered}
 
 ordered_join : (s : State) (xs ys : List SectionEntry) → AreOrdered s xs → AreOrdered (fold next s xs) ys → AreOrdered s (xs ++ ys)

@@ -1,18 +1,15 @@
 -- What the sections that are due to a module leave: its state, bodies aside.
-use Rattle.std.specs.Prelude.{ℕ, ◌≡◌, ◌+◌, ◌++◌, Bool, true, false, List, [], ◌∷◌, length, map, drop, Option, Some, None, slice_index_or, if◌then◌else◌}
-use Rattle.std.specs.List.{AllByRecursion, filter_map, fold}
+use Rattle.std.specs.Prelude.{ℕ, ◌≡◌, ◌+◌, ◌++◌, Bool, true, false, List, [], ◌∷◌, length, map, drop, Option, Some, None, slice_index_or}
+use Rattle.std.specs.List.{AllByRecursion}
 use Rattle.wasm_formats.specs.declared.fault.Space.{Space}
 use Rattle.wasm_formats.specs.declared.fault.Space.TheVariants as spaces
-use Rattle.wasm_grammar.specs.Modules.{Expr, Origin, Imported, Own, Body, Function, Table, Memory, Tag, Global, Mode, Element, Segment, Import, Export, Custom, Module, empty}
-use Rattle.wasm_grammar.specs.States.{State, nothing_yet}
-use Rattle.wasm_body_grammar.specs.Codes.{own_type}
+use Rattle.wasm_grammar.specs.Modules.{Expr, Imported, Own, Body, Function, Table, Memory, Tag, Global, Element, Segment, Import, Export, Custom, Module}
 use Rattle.wasm_ruled_modules.specs.Rules.{bare}
-use Rattle.wasm_sections.specs.Entities.{add_import}
 use Rattle.wasm_sections.specs.Modules.{state_of}
 use Rattle.wasm_section_bytes.specs.Files.{bodies_of}
 use Rattle.wasm_section_bytes.specs.Flags.{IsNotDeclared}
 use Rattle.wasm_module_bytes.specs.Due.{IsExported, IsWritten}
-use Rattle.wasm_canonical.specs.Due.{import_due, items_in, sections_due}
+use Rattle.wasm_canonical.specs.Due.{items_in, sections_due}
 
 -- ---- imports come first in each space
 

@@ -1,6 +1,6 @@
 -- The entries that are due to a module that meets the rules meet those of their sections at some state: their flags, kinds and other single bytes are those of a
 -- form, and what they name is there.
-use Rattle.std.specs.Prelude.{Bool, List, map}
+use Rattle.std.specs.Prelude.{Bool, map}
 use Rattle.std.specs.List.{filter_map}
 use Rattle.wasm_features.specs.declared.WasmFeatures.{WasmFeatures}
 use Rattle.wasm_grammar.specs.Modules.{Module}

@@ -1,16 +1,14 @@
 -- Lemmas: the part of a module is as it stands in a file.
-use Rattle.std.specs.Prelude.{ℕ, zero, ◌≡◌, ◌+◌, Bool, true, List, [], ◌∷◌, ◌++◌, length, map, Option, Some, None, IsSome, slice_get, slice_index_or, refl, if◌then◌else◌}
-use Rattle.std.specs.List.{AllByRecursion, filter_map}
+use Rattle.std.specs.Prelude.{ℕ, ◌≡◌, ◌+◌, true, List, [], ◌∷◌, ◌++◌, length, map, Option, Some, None, IsSome, slice_get, slice_index_or, refl, if◌then◌else◌}
+use Rattle.std.specs.List.{AllByRecursion}
 use Rattle.std.specs.Option.{option_map}
-use Rattle.std.proofs.Common.{ap, sym, ◌∙◌, subst}
+use Rattle.std.proofs.Common.{ap, sym, ◌∙◌, subst, arith}
 use Rattle.std.proofs.lemmas.List.{append-nil, append_assoc, length-append}
 use Rattle.wasm_formats.specs.declared.fault.Space.{Space as FileSpace}
 use Rattle.wasm_formats.specs.declared.fault.Space.TheVariants as spaces
 use Rattle.wasm_operators.specs.Items.{Space, Functions, Tables, Memories, Tags, Globals, ElementSegments, DataSegments}
-use Rattle.wasm_body_grammar.specs.Rules.{space_of}
-use Rattle.wasm_grammar.specs.Modules.{Body, Element, Expr, Function, Global, Import, Imported, Memory, Mode, Module, Origin, Own, Passive, Declared, Active, Segment, Table, Tag}
+use Rattle.wasm_grammar.specs.Modules.{Body, Element, Expr, Function, Global, Import, Imported, Mode, Module, Origin, Own, Passive, Declared, Active, Table}
 use Rattle.wasm_import_links.specs.Links.{brought, function_brought, global_brought, memory_brought, origin_import, slot_import, table_brought, tag_brought}
-use Rattle.wasm_module_rules.specs.Linked.{Each}
 use Rattle.wasm_module_bytes.specs.Due.{IsExported, IsWritten}
 use Rattle.wasm_section_bytes.specs.Flags.{IsNotDeclared}
 use Rattle.wasm_part.specs.Part.{Plan, declaring, number_in, part, picked, renumbered_body, renumbered_element, renumbered_export, renumbered_expr, renumbered_function, renumbered_global, renumbered_import, renumbered_memory, renumbered_mode, renumbered_own, renumbered_segment, renumbered_table, renumbered_tag}
@@ -55,18 +53,21 @@ counted_more m earlier n x space c d at to h i f t y a g = record {
         ap (λ (k : ℕ). k + (if is_to s space then 1 else 0)) e ∙ ap (λ (z : FileSpace). length (brought_by m s earlier) + (if is_to s z then 1 else 0)) (sym to)
         ∙ sym (one_longer m s earlier n x at)
 
+zero_more : (n : ℕ) → n ≡ n + 0
+zero_more n = omega arith
+
 counted_next : (m : Module) (earlier : List ℕ) (n : ℕ) (x : Import) (space : FileSpace) (c : Counts) → slice_index_or m.imports n None ≡ Some x → x.item.space ≡ space → Counted m earlier c
     → Counted m (earlier ++ n ∷ []) (one_more c space)
-counted_next m earlier n x spaces.Function c at to h = counted_more m earlier n x spaces.Function c (one_more c spaces.Function) at to h refl refl refl refl refl refl
-counted_next m earlier n x spaces.Table c at to h = counted_more m earlier n x spaces.Table c (one_more c spaces.Table) at to h refl refl refl refl refl refl
-counted_next m earlier n x spaces.Memory c at to h = counted_more m earlier n x spaces.Memory c (one_more c spaces.Memory) at to h refl refl refl refl refl refl
-counted_next m earlier n x spaces.Tag c at to h = counted_more m earlier n x spaces.Tag c (one_more c spaces.Tag) at to h refl refl refl refl refl refl
-counted_next m earlier n x spaces.Global c at to h = counted_more m earlier n x spaces.Global c (one_more c spaces.Global) at to h refl refl refl refl refl refl
-counted_next m earlier n x spaces.«Type» c at to h = counted_more m earlier n x spaces.«Type» c (one_more c spaces.«Type») at to h refl refl refl refl refl refl
-counted_next m earlier n x spaces.Element c at to h = counted_more m earlier n x spaces.Element c (one_more c spaces.Element) at to h refl refl refl refl refl refl
-counted_next m earlier n x spaces.Data c at to h = counted_more m earlier n x spaces.Data c (one_more c spaces.Data) at to h refl refl refl refl refl refl
-counted_next m earlier n x spaces.Local c at to h = counted_more m earlier n x spaces.Local c (one_more c spaces.Local) at to h refl refl refl refl refl refl
-counted_next m earlier n x spaces.Label c at to h = counted_more m earlier n x spaces.Label c (one_more c spaces.Label) at to h refl refl refl refl refl refl
+counted_next m earlier n x spaces.Function c at to h = counted_more m earlier n x spaces.Function c (one_more c spaces.Function) at to h refl refl (zero_more c.tables) (zero_more c.memories) (zero_more c.tags) (zero_more c.globals)
+counted_next m earlier n x spaces.Table c at to h = counted_more m earlier n x spaces.Table c (one_more c spaces.Table) at to h refl (zero_more c.functions) refl (zero_more c.memories) (zero_more c.tags) (zero_more c.globals)
+counted_next m earlier n x spaces.Memory c at to h = counted_more m earlier n x spaces.Memory c (one_more c spaces.Memory) at to h refl (zero_more c.functions) (zero_more c.tables) refl (zero_more c.tags) (zero_more c.globals)
+counted_next m earlier n x spaces.Tag c at to h = counted_more m earlier n x spaces.Tag c (one_more c spaces.Tag) at to h refl (zero_more c.functions) (zero_more c.tables) (zero_more c.memories) refl (zero_more c.globals)
+counted_next m earlier n x spaces.Global c at to h = counted_more m earlier n x spaces.Global c (one_more c spaces.Global) at to h refl (zero_more c.functions) (zero_more c.tables) (zero_more c.memories) (zero_more c.tags) refl
+counted_next m earlier n x spaces.«Type» c at to h = counted_more m earlier n x spaces.«Type» c (one_more c spaces.«Type») at to h refl (zero_more c.functions) (zero_more c.tables) (zero_more c.memories) (zero_more c.tags) (zero_more c.globals)
+counted_next m earlier n x spaces.Element c at to h = counted_more m earlier n x spaces.Element c (one_more c spaces.Element) at to h refl (zero_more c.functions) (zero_more c.tables) (zero_more c.memories) (zero_more c.tags) (zero_more c.globals)
+counted_next m earlier n x spaces.Data c at to h = counted_more m earlier n x spaces.Data c (one_more c spaces.Data) at to h refl (zero_more c.functions) (zero_more c.tables) (zero_more c.memories) (zero_more c.tags) (zero_more c.globals)
+counted_next m earlier n x spaces.Local c at to h = counted_more m earlier n x spaces.Local c (one_more c spaces.Local) at to h refl (zero_more c.functions) (zero_more c.tables) (zero_more c.memories) (zero_more c.tags) (zero_more c.globals)
+counted_next m earlier n x spaces.Label c at to h = counted_more m earlier n x spaces.Label c (one_more c spaces.Label) at to h refl (zero_more c.functions) (zero_more c.tables) (zero_more c.memories) (zero_more c.tags) (zero_more c.globals)
 
 -- ---- imports and what they bring
 
@@ -83,6 +84,9 @@ init_brought (Imported k) n e = ap (λ (k : ℕ). Imported k) (some_same k n e)
     some_same : (x y : ℕ) → (let some : ℕ → Option ℕ = λ x. Some x in some x ≡ some y) → x ≡ y
     some_same x y e = cc
 init_brought (Own x) n e = absurd cc
+
+none_at : (k n : ℕ) → (let none : List (Option ℕ) = [] in slice_index_or none k None ≡ Some n) → ⊥
+none_at k n e = cc
 
 there_from : {A : Type 0} (from : A → Option ℕ) (o : Option A) (n : ℕ) → slot_import from o ≡ Some n → (x : A) × (o ≡ Some x) × (from x ≡ Some n)
 there_from from None n e = absurd cc
@@ -149,30 +153,31 @@ module _ (p : Plan) (m : Module) (orderly : IsOrderly m) (h : InOrder m p) (ther
       let y = stands_as Globals tt global_brought (renumbered_global p.renames p.brings) m.globals earlier later n c.globals x all at (ap (λ (z : FileSpace). is_to Globals z) to) counts.globals link in
       let new : p.brings n ≡ c.imports = place_of earlier later n all ∙ sym counts.imports in
       (y.number, (renumbered_global p.renames p.brings y.item, y.stands, ap (λ (o : Origin Expr). renumbered_own p.renames p.brings (renumbered_expr p.renames) o) (init_brought y.item.origin n y.is) ∙ ap (λ (k : ℕ). Imported k) new))
-  one_brings earlier later n c x spaces.«Type» all counts at to = absurd (none_at x.item.number (subst (λ (z : FileSpace). slice_index_or (brought m z) x.item.number None ≡ Some n) to (orderly.linked.named n x at)))
-  one_brings earlier later n c x spaces.Element all counts at to = absurd (none_at x.item.number (subst (λ (z : FileSpace). slice_index_or (brought m z) x.item.number None ≡ Some n) to (orderly.linked.named n x at)))
-  one_brings earlier later n c x spaces.Data all counts at to = absurd (none_at x.item.number (subst (λ (z : FileSpace). slice_index_or (brought m z) x.item.number None ≡ Some n) to (orderly.linked.named n x at)))
-  one_brings earlier later n c x spaces.Local all counts at to = absurd (none_at x.item.number (subst (λ (z : FileSpace). slice_index_or (brought m z) x.item.number None ≡ Some n) to (orderly.linked.named n x at)))
-  one_brings earlier later n c x spaces.Label all counts at to = absurd (none_at x.item.number (subst (λ (z : FileSpace). slice_index_or (brought m z) x.item.number None ≡ Some n) to (orderly.linked.named n x at)))
-    where
-      none_at : (k : ℕ) → (let none : List (Option ℕ) = [] in slice_index_or none k None ≡ Some n) → ⊥
-      none_at k e = cc
+  one_brings earlier later n c x spaces.«Type» all counts at to = absurd (none_at x.item.number n (subst (λ (z : FileSpace). slice_index_or (brought m z) x.item.number None ≡ Some n) to (orderly.linked.named n x at)))
+  one_brings earlier later n c x spaces.Element all counts at to = absurd (none_at x.item.number n (subst (λ (z : FileSpace). slice_index_or (brought m z) x.item.number None ≡ Some n) to (orderly.linked.named n x at)))
+  one_brings earlier later n c x spaces.Data all counts at to = absurd (none_at x.item.number n (subst (λ (z : FileSpace). slice_index_or (brought m z) x.item.number None ≡ Some n) to (orderly.linked.named n x at)))
+  one_brings earlier later n c x spaces.Local all counts at to = absurd (none_at x.item.number n (subst (λ (z : FileSpace). slice_index_or (brought m z) x.item.number None ≡ Some n) to (orderly.linked.named n x at)))
+  one_brings earlier later n c x spaces.Label all counts at to = absurd (none_at x.item.number n (subst (λ (z : FileSpace). slice_index_or (brought m z) x.item.number None ≡ Some n) to (orderly.linked.named n x at)))
 
-  all_bring : (earlier ns : List ℕ) (c : Counts) → p.imports ≡ earlier ++ ns → Counted m earlier c → AreFilled ns m.imports
-      → BringAll N c (items_in (picked (renumbered_import p.renames) ns m.imports)) × Counted m (earlier ++ ns) (all_of c (items_in (picked (renumbered_import p.renames) ns m.imports)))
-  all_bring earlier [] c all counts filled = (tt, subst (λ (l : List ℕ). Counted m l c) (sym (append-nil earlier)) counts)
-  all_bring earlier (n ∷ ns) c all counts filled = go (slice_index_or m.imports n None) refl filled.0
-    where
-      go : (o : Option Import) → slice_index_or m.imports n None ≡ o → IsSome o
-          → BringAll N c (items_in (option_map (renumbered_import p.renames) o ∷ picked (renumbered_import p.renames) ns m.imports))
-          × Counted m (earlier ++ n ∷ ns) (all_of c (items_in (option_map (renumbered_import p.renames) o ∷ picked (renumbered_import p.renames) ns m.imports)))
-      go None at some = absurd cc
-      go (Some x) at some =
-          let next : earlier ++ n ∷ ns ≡ (earlier ++ n ∷ []) ++ ns = sym (append_assoc earlier (n ∷ []) ns) in
-          let later = all_bring (earlier ++ n ∷ []) ns (one_more c x.item.space) (all ∙ next) (counted_next m earlier n x x.item.space c at refl counts) filled.1 in (
-            (one_brings earlier ns n c x x.item.space all counts at refl, later.0),
-            subst (λ (l : List ℕ). Counted m l (all_of (one_more c x.item.space) (items_in (picked (renumbered_import p.renames) ns m.imports)))) (sym next) later.1,
-          )
+  abbrev brought_in : List ℕ → List Import
+  brought_in ns = items_in (picked (renumbered_import p.renames) ns m.imports)
+
+  abbrev BringsSo : List ℕ → List ℕ → Counts → List Import → Type 0
+  BringsSo all earlier c is = BringAll N c is × Counted m all (all_of c is)
+
+  bring_one : (n : ℕ) (ns earlier : List ℕ) (c : Counts) → p.imports ≡ earlier ++ n ∷ ns → Counted m earlier c → (o : Option Import) → slice_index_or m.imports n None ≡ o → IsSome o
+      → ((x : Import) → slice_index_or m.imports n None ≡ Some x → BringsSo (earlier ++ n ∷ ns) (earlier ++ n ∷ []) (one_more c x.item.space) (brought_in ns))
+      → BringsSo (earlier ++ n ∷ ns) earlier c (items_in (option_map (renumbered_import p.renames) o ∷ picked (renumbered_import p.renames) ns m.imports))
+  bring_one n ns earlier c all counts None at some later = absurd cc
+  bring_one n ns earlier c all counts (Some x) at some later = let rest = later x at in ((one_brings earlier ns n c x x.item.space all counts at refl, rest.0), rest.1)
+
+  all_bring : (ns earlier : List ℕ) (c : Counts) → p.imports ≡ earlier ++ ns → Counted m earlier c → AreFilled ns m.imports → BringsSo (earlier ++ ns) earlier c (brought_in ns)
+  all_bring [] earlier c all counts filled = (tt, subst (λ (l : List ℕ). Counted m l c) (sym (append-nil earlier)) counts)
+  all_bring (n ∷ ns) earlier c all counts filled =
+      let next : earlier ++ n ∷ ns ≡ (earlier ++ n ∷ []) ++ ns = sym (append_assoc earlier (n ∷ []) ns) in
+      bring_one n ns earlier c all counts (slice_index_or m.imports n None) refl filled.0
+      (λ x at. subst (λ (l : List ℕ). BringsSo l (earlier ++ n ∷ []) (one_more c x.item.space) (brought_in ns)) (sym next)
+      (all_bring ns (earlier ++ n ∷ []) (one_more c x.item.space) (all ∙ next) (counted_next m earlier n x x.item.space c at refl counts) filled.1))
 
   none_counted : Counted m [] none_brought
   none_counted = record { imports = refl; functions = refl; tables = refl; memories = refl; tags = refl; globals = refl }
@@ -204,7 +209,7 @@ module _ (p : Plan) (m : Module) (orderly : IsOrderly m) (h : InOrder m p) (ther
 
   pub dense : AllByRecursion IsWritten p.groups → IsDense (part p m)
   dense groups =
-      let imports = all_bring [] p.imports none_brought refl none_counted there.imports in
+      let imports = all_bring p.imports [] none_brought refl none_counted there.imports in
       let counts = imports.1 in record {
         groups = groups;
         imports = picked_there (λ (i : Import). Unit {0}) (λ (i : Import). Unit {0}) (renumbered_import p.renames) m.imports p.imports there.imports (each_unit m.imports) (λ x e. tt);

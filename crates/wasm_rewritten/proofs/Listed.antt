@@ -6,7 +6,6 @@ use Rattle.std.proofs.Common.{ap, sym, ◌∙◌, subst}
 use Rattle.std.proofs.Math.Seq.{drop-append_seam}
 use Rattle.std.proofs.lemmas.List.{length-append, length-map, map-append}
 use Rattle.std.proofs.lemmas.List.Elements.{filter_map-append}
-use Rattle.wasm_formats.specs.declared.fault.Space.{Space as FileSpace}
 use Rattle.wasm_operators.specs.Items.{Space}
 use Rattle.wasm_grammar.specs.Modules.{Import, Module}
 use Rattle.wasm_import_links.specs.Links.{slot_import}

@@ -8,10 +8,11 @@ use Rattle.walrus_forms.specs.Renaming.{at}
 use Rattle.wasm_features.specs.declared.WasmFeatures.{WasmFeatures}
 use Rattle.wasm_formats.specs.declared.fault.Space.{Space}
 use Rattle.wasm_formats.specs.declared.fault.Space.TheVariants as spaces
-use Rattle.wasm_grammar.specs.Modules.{Body, Export, Expr, Function, Global, Imported, Mode, Passive, Declared, Active, Module, Origin, Own, Segment, Table, Tag, empty}
+use Rattle.wasm_grammar.specs.Modules.{Body, Export, Expr, Function, Global, Imported, Mode, Passive, Declared, Active, Module, Origin, Own, Segment, Table, empty}
 use Rattle.wasm_grammar.specs.States.{State}
+use Rattle.wasm_body_grammar.specs.Codes.{param_count}
 use Rattle.wasm_modules.specs.Modules.{Reads, module_of}
-use Rattle.wasm_sections.specs.Entities.{Entity, FunctionOf, TableOf, MemoryOf, GlobalOf, TagOf, ImportEntry, TableEntry, add_entity, add_table, global_of, import_of, with_import}
+use Rattle.wasm_sections.specs.Entities.{Entity, FunctionOf, TableOf, MemoryOf, GlobalOf, TagOf, TableEntry, add_entity, add_table, global_of, import_of, with_import}
 use Rattle.wasm_sections.specs.Exports.{kind_space}
 use Rattle.wasm_sections.specs.Segments.{DataForm, ActiveData, PassiveData, DataInto, segment_of}
 use Rattle.wasm_module_rules.specs.Linked.{Each}
@@ -134,7 +135,7 @@ none_kept : Keeps 0 empty
 none_kept = record { tables = tt; exports = tt; segments = tt; all_in = λ lt. tt; first = tt }
 
 -- what is left of that when bodies are in
-record IsSorted (m : Module) : Type 0 where
+pub record IsSorted (m : Module) : Type 0 where
   tables : Each TablePlain m.tables
   exports : Each (λ (e : Export). IsExported e.item.space) m.exports
   segments : Each (λ (x : Segment). IsNotDeclared x.mode) m.segments
@@ -193,11 +194,11 @@ module _ (place : Option ℕ → ℕ) (features : WasmFeatures) (more : List Typ
   r = at (ids_of file.groups)
 
   function_same : (f : Function) → function_brought (normal_function place (around_bodies features true file) r f) ≡ function_brought f
-  function_same f = by f.origin
+  function_same f = by (param_count (around_bodies features true file).filled f.ty) f.origin
     where
-      by : (o : Origin Body) → function_brought (record f { ty = r f.ty; origin = normal_origin place (around_bodies features true file) r _ o }) ≡ function_brought (record f { origin = o })
-      by (Imported n) = refl
-      by (Own x) = refl
+      by : (params : ℕ) (o : Origin Body) → function_brought (record { ty = r f.ty; origin = normal_origin place (around_bodies features true file) r params o }) ≡ function_brought (record { ty = f.ty; origin = o })
+      by params (Imported n) = refl
+      by params (Own x) = refl
 
   global_same : (g : Global) → global_brought (retyped_global r g) ≡ global_brought g
   global_same g = by g.origin
@@ -227,7 +228,7 @@ module _ (place : Option ℕ → ℕ) (features : WasmFeatures) (more : List Typ
   plain_sent : (t : Table) → TablePlain t → TablePlain (retyped_table r t)
   plain_sent t h i e = ap (λ (o : Option Expr). option_map (retyped_expr r) o) (h i e)
 
-  pub orderly : IsSorted file → ImportsLink file → IsOrderly m × GlobalsFirst m
+  orderly : IsSorted file → ImportsLink file → IsOrderly m × GlobalsFirst m
   orderly h l = (
     record {
       linked = links l;

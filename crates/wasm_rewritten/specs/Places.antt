@@ -1,7 +1,7 @@
 -- Which written operator stands for which: pairs of an old and a new place.
-use Rattle.std.specs.Prelude.{ℕ, ◌≡◌, ◌<◌, List, All, AllPairs, Contains, Option, Some, None, slice_get, slice_index_or}
+use Rattle.std.specs.Prelude.{ℕ, ◌≡◌, ◌<◌, List, All, AllPairs, Contains, Some, None, slice_get, slice_index_or}
 use Rattle.wasm_operators.specs.Items.{Functions}
-use Rattle.wasm_grammar.specs.Modules.{Origin, Own, Placed, Body, Function, Module}
+use Rattle.wasm_grammar.specs.Modules.{Own, Placed, Body, Function, Module}
 use Rattle.wasm_part.specs.Part.{IsIn, Plan}
 
 -- the i-th operator of a function's body

@@ -4,7 +4,7 @@ use Rattle.walrus_types.specs.Table.{Table}
 use Rattle.wasm_features.specs.declared.WasmFeatures.{WasmFeatures}
 use Rattle.wasm_formats.specs.declared.fault.Space.{Space}
 use Rattle.wasm_formats.specs.declared.fault.Space.TheVariants as spaces
-use Rattle.wasm_grammar.specs.Modules.{Custom, Item, Module}
+use Rattle.wasm_grammar.specs.Modules.{Custom, Module}
 use Rattle.wasm_grammar.specs.States.{count_of}
 use Rattle.wasm_modules.specs.Modules.{Reads}
 use Rattle.wasm_references.specs.References.{item}
