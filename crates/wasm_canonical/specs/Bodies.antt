@@ -1,4 +1,4 @@
--- The bodies of functions that meet the rules are spelled by their shortest bytes, wherever these stand.
+-- The bodies of functions that meet the rules are spelled by their shortest bytes, wherever these stand (Core Specification, binary format: code section).
 use Rattle.std.specs.Prelude.{ℕ, ◌<◌, ◌^◌, ◌≡◌, List, [], ◌∷◌, length, map, Option}
 use Rattle.std.specs.List.{filter_map}
 use Rattle.wasm_grammar.specs.Modules.{Origin, Imported, Own, Placed, Body, Function}

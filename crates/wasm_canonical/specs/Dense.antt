@@ -1,4 +1,4 @@
--- What the sections that are due to a module leave: its state, bodies aside.
+-- A module as it stands in a file, and what the sections that are due to it leave: its state, bodies aside.
 use Rattle.std.specs.Prelude.{ℕ, ◌≡◌, ◌+◌, ◌++◌, Bool, true, false, List, [], ◌∷◌, length, map, drop, Option, Some, None, slice_index_or}
 use Rattle.std.specs.List.{AllByRecursion}
 use Rattle.wasm_formats.specs.declared.fault.Space.{Space}

@@ -1,4 +1,4 @@
--- The sections that are due to a module stand in the order of a file's sections.
+-- The sections that are due to a module stand in the order of a file's sections (Core Specification, binary format: modules).
 use Rattle.std.specs.Prelude.{ℕ, ◌≡◌, Bool, List, [], ◌∷◌, None}
 use Rattle.wasm_grammar.specs.Modules.{Custom, Module}
 use Rattle.wasm_grammar.specs.States.{State, nothing_yet}

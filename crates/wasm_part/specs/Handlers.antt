@@ -1,4 +1,4 @@
--- The types that handlers of legacy `try`s have and the module hasn't, in words of a file's module.
+-- The types that handlers of legacy `try`s have and the module hasn't, in words of a file's module: `catch` and `catch_all` have no block type of their own.
 use Rattle.std.specs.Prelude.{ℕ, ◌&&◌, Bool, true, false, not, List, [], ◌∷◌, ◌++◌, map, filter, Option, Some, None, slice_get, slice_index_or}
 use Rattle.std.specs.List.{AllByRecursion, flat_map}
 use Rattle.std.specs.Option.{is_none, option_and_then, option_map}

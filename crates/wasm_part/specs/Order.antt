@@ -1,4 +1,5 @@
--- The order in which the items of a part are written, and the segment that declares functions.
+-- The order in which the items of a part are written: in each index space what imports bring first (Core Specification, indices); and the segment that declares
+-- functions (valid modules: references of `ref.func`).
 use Rattle.std.specs.Prelude.{ℕ, ◌≡◌, ◌<◌, ◌⊎◌, ◌↔◌, Bool, true, false, List, [], ◌∷◌, ◌++◌, Contains, Option, Some, None, slice_get, slice_index_or, if◌then◌else◌}
 use Rattle.std.specs.List.{AllByRecursion, filter_map}
 use Rattle.wasm_formats.specs.declared.fault.Space.{Space as FileSpace}

@@ -2,4 +2,5 @@ pub mod Dense
 pub mod Orderly
 pub mod Places
 pub mod Rewritten
+pub mod Ruled
 pub mod Runs

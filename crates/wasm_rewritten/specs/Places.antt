@@ -1,4 +1,4 @@
--- Which written operator stands for which: pairs of an old and a new place.
+-- Which written operator stands for which: pairs of an old and a new place, each counted from the count of functions in its file's code section.
 use Rattle.std.specs.Prelude.{ℕ, ◌≡◌, ◌<◌, List, All, AllPairs, Contains, Some, None, slice_get, slice_index_or}
 use Rattle.wasm_operators.specs.Items.{Functions}
 use Rattle.wasm_grammar.specs.Modules.{Own, Placed, Body, Function, Module}

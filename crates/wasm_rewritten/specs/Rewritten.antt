@@ -1,4 +1,4 @@
--- What rewriting is, over the definitions beside this one.
+-- Which bytes and places are a file rewritten.
 use Rattle.std.specs.Prelude.{ℕ, ◌≡◌, ◌<◌, true, List, [], map, Option, Some, None, MatchOption}
 use Rattle.walrus_types.specs.Table.{Table}
 use Rattle.wasm_features.specs.declared.WasmFeatures.{WasmFeatures}

@@ -2,16 +2,19 @@
 
 ghost use Rattle.wasm_rewritten.specs.Dense.{PartsAreDense};
 ghost use Rattle.wasm_rewritten.specs.Orderly.{ReadFilesAreOrderly};
+ghost use Rattle.wasm_rewritten.specs.Ruled.{FilesNameTheirLocals, ReadFilesArePicked, WrittenPartsAreRuled};
 ghost use Rattle.wasm_rewritten.specs.Runs.{CallsAreKept, CorrespondingRuns, EntriesAreKept, KeptIsDecided, PicksKeepThrough, ReadFilesAreAsked, RewrittenRunsCorrespond, WrittenRunsTheSame, WrittenStandsNormal};
 
 use walrus_forms::laws::same_kind_is_equality;
 use wasm_import_links::laws::read_modules_link;
-use wasm_merged_modules::laws::{new_kinds_stand_behind, types_are_merged};
+use wasm_merged_modules::laws::{merged_files_are_ruled, new_kinds_stand_behind, types_are_merged};
 use wasm_normal_form::laws::{normal_forms_are_normal, trees_are_one};
 use wasm_normal_modules::laws::{
     normal_forms_of_read_modules_are_ruled, numbered_operators_are_normal,
 };
-use wasm_part::laws::{emitted_types_stand, handlers_are_missing};
+use wasm_part::laws::{
+    blocks_open, emitted_types_stand, handlers_are_missing, kept_parts_are_ruled,
+};
 use wasm_ruled_normal::laws::normal_operators_are_ruled;
 use wasm_run_names::laws::block_types_keep_parameters_and_results;
 use wasm_runs::laws::each_run_has_one_trace;
@@ -85,4 +88,33 @@ pub fn read_files_are_orderly()
     ensures { ReadFilesAreOrderly }
 {
     read_modules_link();
+}
+
+/// The types of the locals that the normal form of a file's body declares are among what its function names.
+pub fn files_name_their_locals()
+    ensures { FilesNameTheirLocals }
+{
+    types_are_merged();
+}
+
+/// The normal form of a file that is read meets the rules with its types merged, and each block type in it is its own pick.
+pub fn read_files_are_picked()
+    ensures { ReadFilesArePicked }
+{
+    blocks_open();
+    handlers_are_missing();
+    merged_files_are_ruled();
+}
+
+/// The part of a file that has just what is kept meets the rules, renumbered.
+pub fn written_parts_are_ruled()
+    ensures { WrittenPartsAreRuled }
+{
+    read_files_are_picked();
+    files_name_their_locals();
+    read_files_are_orderly();
+    handlers_are_missing();
+    normal_forms_of_read_modules_are_ruled();
+    new_kinds_stand_behind();
+    kept_parts_are_ruled();
 }
