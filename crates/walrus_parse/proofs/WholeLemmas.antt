@@ -28,12 +28,8 @@ use Rattle.walrus_named_bodies.specs.walrus_file_bodies.walrus_module_bodies.Ste
 use Rattle.walrus_named_bodies.specs.walrus_file_bodies.walrus_module_bodies.declared.file.FileEnv.{FileEnv}
 use Rattle.walrus_named_bodies.specs.walrus_file_bodies.Laws.{BodiesReadFiles, BodiesStopFiles}
 use Rattle.walrus_named_bodies.specs.Code.{IsCodeRefusal}
-<<<<<<< HEAD
-use Rattle.walrus_parse.specs.Parsed.{ReadsAs}
-use Rattle.walrus_file_reader.specs.Files.{read_has_header}
-=======
 use Rattle.walrus_named_bodies.specs.Parsed.{ReadsAs}
->>>>>>> c5718e69b65f51cafc5b9dd7dee41f4b78f76d58
+use Rattle.walrus_file_reader.specs.Files.{read_has_header}
 use Rattle.walrus_parse.specs.Refusals.{IsRefusal}
 use Rattle.walrus_parse.proofs.RefusalLemmas.{fault_is}
 
