@@ -28,7 +28,7 @@ use Rattle.walrus_named_bodies.specs.walrus_file_bodies.walrus_module_bodies.Ste
 use Rattle.walrus_named_bodies.specs.walrus_file_bodies.walrus_module_bodies.declared.file.FileEnv.{FileEnv}
 use Rattle.walrus_named_bodies.specs.walrus_file_bodies.Laws.{BodiesReadFiles, BodiesStopFiles}
 use Rattle.walrus_named_bodies.specs.Code.{IsCodeRefusal}
-use Rattle.walrus_parse.specs.Parsed.{ReadsAs}
+use Rattle.walrus_named_bodies.specs.Parsed.{ReadsAs}
 use Rattle.walrus_file_reader.specs.Files.{read_has_header}
 use Rattle.walrus_parse.specs.Refusals.{IsRefusal}
 use Rattle.walrus_parse.proofs.RefusalLemmas.{fault_is}

@@ -1,5 +1,5 @@
 pub mod Refusals
-pub mod Parsed
+pub use Rattle.walrus_named_bodies.specs.Parsed
 -- Passed on to crates above, which then list this one alone.
 pub use Rattle.walrus_named_bodies.specs.wasm_spelled_modules as wasm_spelled_modules
 pub use Rattle.walrus_named_bodies.specs as walrus_named_bodies

@@ -5,7 +5,7 @@ ghost use Rattle.walrus_config.specs.Config.{default_config};
 ghost use Rattle.walrus_config.specs.declared.config.ModuleConfig.{ModuleConfig as Flags};
 ghost use Rattle.walrus_named_bodies.specs.walrus_locations.Sent.{AnswersLocations};
 ghost use Rattle.walrus_named_bodies.specs.walrus_item_names.walrus_module.declared.module.Module.{Module as Whole};
-ghost use Rattle.walrus_parse.specs.Parsed.{HandsOn, IsRead, read_features};
+ghost use Rattle.walrus_named_bodies.specs.Parsed.{HandsOn, IsRead, read_features};
 ghost use Rattle.walrus_parse.specs.Refusals.{IsRefusal};
 
 use crate::whole::parse_into;

@@ -5,7 +5,7 @@ use Rattle.walrus_errors.specs.declared.error.ModuleError.{ModuleError}
 use Rattle.walrus_errors.specs.declared.error.ModuleError.TheVariants.{Memory}
 use Rattle.walrus_named_bodies.specs.walrus_item_names.walrus_module.declared.module.Module.{Module as Whole}
 use Rattle.walrus_named_bodies.specs.walrus_item_names.walrus_module.walrus_body_writer.walrus_pairing.walrus_index_maps.Views.{ids}
-use Rattle.walrus_parse.specs.Parsed.{HandsOn, read_features}
+use Rattle.walrus_named_bodies.specs.Parsed.{HandsOn, read_features}
 use Rattle.walrus_file_reader.specs.Files.{read_has_header}
 use Rattle.walrus_parse.specs.Refusals.{IsRefusal}
 use Rattle.walrus_parse.proofs.ReadLemmas.{is_read, leaves_so}

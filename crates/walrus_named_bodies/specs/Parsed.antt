@@ -4,37 +4,37 @@ use Rattle.std.specs.Fn.{Once}
 use Rattle.std.specs.Borrow.{Bor, MutBor}
 use Rattle.std.specs.declared.alloc.Global.{Global as Alloc}
 use Rattle.std.specs.declared.string.String.{String}
-use Rattle.walrus_named_bodies.specs.walrus_item_names.walrus_module.walrus_body_writer.walrus_pairing.wasm_operators.wasm_features.Features.{features_of}
-use Rattle.walrus_named_bodies.specs.walrus_item_names.walrus_module.walrus_body_writer.walrus_pairing.wasm_operators.wasm_features.declared.WasmFeatures.{WasmFeatures}
-use Rattle.walrus_named_bodies.specs.walrus_item_names.walrus_module.walrus_local_function.walrus_body_locals.wasm_grammar.Modules as grammar
-use Rattle.walrus_named_bodies.specs.walrus_file_bodies.walrus_items_into.wasm_module_rules.wasm_modules.Modules.{around, codes, module_of, IsShort, Reads}
-use Rattle.walrus_named_bodies.specs.walrus_item_names.walrus_module.walrus_local_function.walrus_body_locals.wasm_body_grammar.Codes.{ReadsCodes}
-use Rattle.walrus_named_bodies.specs.walrus_file_bodies.walrus_items_into.wasm_sections.Laws.{ReadsSections}
-use Rattle.walrus_named_bodies.specs.wasm_name_payloads.Names.{names_of}
-use Rattle.walrus_named_bodies.specs.wasm_name_payloads.Producers.{processed, producers_of}
+use Rattle.walrus_item_names.specs.walrus_module.walrus_body_writer.walrus_pairing.wasm_operators.wasm_features.Features.{features_of}
+use Rattle.walrus_item_names.specs.walrus_module.walrus_body_writer.walrus_pairing.wasm_operators.wasm_features.declared.WasmFeatures.{WasmFeatures}
+use Rattle.walrus_item_names.specs.walrus_module.walrus_local_function.walrus_body_locals.wasm_grammar.Modules as grammar
+use Rattle.walrus_file_bodies.specs.walrus_items_into.wasm_module_rules.wasm_modules.Modules.{around, codes, module_of, IsShort, Reads}
+use Rattle.walrus_item_names.specs.walrus_module.walrus_local_function.walrus_body_locals.wasm_body_grammar.Codes.{ReadsCodes}
+use Rattle.walrus_file_bodies.specs.walrus_items_into.wasm_sections.Laws.{ReadsSections}
+use Rattle.walrus_payload_readers.specs.wasm_name_payloads.Names.{names_of}
+use Rattle.walrus_payload_readers.specs.wasm_name_payloads.Producers.{processed, producers_of}
 use Rattle.walrus_arena.specs.Arena.{Arena}
 use Rattle.walrus_config.specs.Config.{feature_names}
 use Rattle.walrus_config.specs.declared.config.ModuleConfig.{ModuleConfig}
 use Rattle.walrus_customs.specs.Producers.{fields_of}
 use Rattle.walrus_customs.specs.declared.producers.ProducerField.{ProducerField}
 use Rattle.walrus_errors.specs.declared.error.ModuleError.{ModuleError}
-use Rattle.walrus_named_bodies.specs.walrus_item_names.walrus_module.walrus_body_writer.walrus_pairing.walrus_index_maps.Maps.{Ids}
-use Rattle.walrus_named_bodies.specs.walrus_item_names.walrus_module.walrus_body_writer.walrus_pairing.walrus_index_maps.Views.{ids}
-use Rattle.walrus_named_bodies.specs.walrus_item_names.walrus_module.walrus_body_writer.walrus_pairing.walrus_index_maps.declared.indices_to_ids.IndicesToIds.{IndicesToIds}
-use Rattle.walrus_named_bodies.specs.walrus_item_names.walrus_module.walrus_builder.walrus_walks.walrus_instr.declared.seq.InstrLocId.{InstrLocId}
-use Rattle.walrus_named_bodies.specs.walrus_item_names.Gives.{GivesNames}
-use Rattle.walrus_named_bodies.specs.walrus_item_names.Holder.{Holder, holder}
-use Rattle.walrus_named_bodies.specs.walrus_item_names.walrus_module.walrus_types.walrus_items.declared.local.Local.{Local}
-use Rattle.walrus_named_bodies.specs.walrus_file_bodies.walrus_items_into.Filled.{IsFilledFrom}
-use Rattle.walrus_named_bodies.specs.walrus_file_bodies.walrus_items_into.Spaces.{Spaces, spaces}
-use Rattle.walrus_named_bodies.specs.walrus_locations.Sent.{FunctionsSent}
-use Rattle.walrus_named_bodies.specs.walrus_item_names.walrus_module.declared.module.Module.{Module as Whole}
-use Rattle.walrus_named_bodies.specs.walrus_item_names.walrus_module.walrus_module_items.declared.function.Function.{Function}
-use Rattle.walrus_named_bodies.specs.walrus_file_bodies.walrus_items_into.walrus_tables_into.walrus_sections_into.walrus_known_sections.State.{state_of}
-use Rattle.walrus_named_bodies.specs.walrus_file_bodies.walrus_items_into.walrus_tables_into.walrus_sections_into.walrus_known_sections.declared.sections.Sections.{Sections}
-use Rattle.walrus_named_bodies.specs.walrus_file_bodies.walrus_module_bodies.Steps.{State, Steps, state}
-use Rattle.walrus_named_bodies.specs.walrus_file_bodies.walrus_module_bodies.declared.file.FileEnv.{FileEnv}
-use Rattle.walrus_named_bodies.specs.walrus_file_bodies.Ready.{IsFileOf, bodies_in}
+use Rattle.walrus_item_names.specs.walrus_module.walrus_body_writer.walrus_pairing.walrus_index_maps.Maps.{Ids}
+use Rattle.walrus_item_names.specs.walrus_module.walrus_body_writer.walrus_pairing.walrus_index_maps.Views.{ids}
+use Rattle.walrus_item_names.specs.walrus_module.walrus_body_writer.walrus_pairing.walrus_index_maps.declared.indices_to_ids.IndicesToIds.{IndicesToIds}
+use Rattle.walrus_item_names.specs.walrus_module.walrus_builder.walrus_walks.walrus_instr.declared.seq.InstrLocId.{InstrLocId}
+use Rattle.walrus_item_names.specs.Gives.{GivesNames}
+use Rattle.walrus_item_names.specs.Holder.{Holder, holder}
+use Rattle.walrus_item_names.specs.walrus_module.walrus_types.walrus_items.declared.local.Local.{Local}
+use Rattle.walrus_file_bodies.specs.walrus_items_into.Filled.{IsFilledFrom}
+use Rattle.walrus_file_bodies.specs.walrus_items_into.Spaces.{Spaces, spaces}
+use Rattle.walrus_locations.specs.Sent.{FunctionsSent}
+use Rattle.walrus_item_names.specs.walrus_module.declared.module.Module.{Module as Whole}
+use Rattle.walrus_item_names.specs.walrus_module.walrus_module_items.declared.function.Function.{Function}
+use Rattle.walrus_file_bodies.specs.walrus_items_into.walrus_tables_into.walrus_sections_into.walrus_known_sections.State.{state_of}
+use Rattle.walrus_file_bodies.specs.walrus_items_into.walrus_tables_into.walrus_sections_into.walrus_known_sections.declared.sections.Sections.{Sections}
+use Rattle.walrus_file_bodies.specs.walrus_module_bodies.Steps.{State, Steps, state}
+use Rattle.walrus_file_bodies.specs.walrus_module_bodies.declared.file.FileEnv.{FileEnv}
+use Rattle.walrus_file_bodies.specs.Ready.{IsFileOf, bodies_in}
 use Rattle.walrus_named_bodies.specs.Named.{all_names}
 
 -- the features that are read under these flags
