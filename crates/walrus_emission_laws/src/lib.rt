@@ -13,7 +13,7 @@ pub mod body_steps {
 }
 
 pub mod body_trees {
-    pub use walrus_body_trees::laws;
+    pub use walrus_body_trees::{laws, meaning};
 }
 
 pub mod local_numbers {

@@ -17,6 +17,8 @@ pub mod body_trees {
 }
 
 pub mod functions_into {
+    pub use walrus_module_bodies::functions_into::{FunctionBody, pair_bodies};
+
     pub mod laws {
         pub use walrus_module_bodies::functions_into::laws::read_functions_stand;
     }
@@ -29,6 +31,8 @@ pub mod functions_into {
 }
 
 pub mod module_bodies {
+    pub use walrus_module_bodies::{FileEnv, read_bodies};
+
     pub mod laws {
         pub use walrus_module_bodies::laws::steps_read_codes;
     }

@@ -22,7 +22,7 @@ pub mod local_function {
 
 pub mod module_items {
     pub use walrus_collections::module_items::{
-        Data, Element, ElementItems, ElementKind, Export, ExportItem, Function, FunctionKind,
-        Global, GlobalKind, ImportKind, Memory, Table, Tag,
+        Data, DataKind, Element, ElementItems, ElementKind, Export, ExportItem, Function,
+        FunctionKind, Global, GlobalKind, ImportKind, Memory, Table, Tag,
     };
 }

@@ -14,9 +14,9 @@ use walrus_errors::{ModuleError, Result};
 use walrus_index_maps::IndicesToIds;
 use walrus_instr::type_table::{ModuleLocals, ModuleTypes};
 use walrus_item_names::module::collections::{ModuleFunctions, ModuleMemories, ModuleTags};
+use walrus_items_into::functions_into::{FunctionBody, pair_bodies};
+use walrus_items_into::module_bodies::{FileEnv, read_bodies};
 use walrus_known_sections::{Chunk, Sections};
-use walrus_module_bodies::functions_into::{FunctionBody, pair_bodies};
-use walrus_module_bodies::{FileEnv, read_bodies};
 use wasm_features::WasmFeatures;
 
 // How many types live. They are held in memory, so there are never 2^64.

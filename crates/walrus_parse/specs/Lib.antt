@@ -7,3 +7,4 @@ pub use Rattle.walrus_named_bodies.specs.walrus_file_bodies.walrus_body_trees as
 pub use Rattle.walrus_named_bodies.specs.walrus_file_bodies as walrus_file_bodies
 pub use Rattle.walrus_named_bodies.specs.walrus_item_names as walrus_item_names
 pub use Rattle.walrus_named_bodies.specs.walrus_item_names.walrus_module as walrus_module
+pub use Rattle.walrus_file_reader.specs as walrus_file_reader

@@ -28,7 +28,7 @@ pub trait Parse {
     ///
     /// # Errors
     ///
-    /// `InputTooLong` past 2^30 bytes; else the first fault of the file, at its place; want of memory, in place of what would come later.
+    /// `InputTooLong` past 2^30 bytes; else the first fault of the file, at its place; want of memory, in place of what would come behind the header.
     fn parse<B: Drop>(&self, alloc: Global, wasm: &[u8]) -> Result<Module<B>>
         ensures read { IfOk result (λ m. IsRead (flags self.now) wasm.now m) }
         ensures refused { IfErr result (λ error. IsRefusal (read_features (flags self.now)) wasm.now error) };

@@ -113,7 +113,7 @@ fn read_module<B: Drop>(
 ///
 /// # Errors
 ///
-/// `InputTooLong` past 2^30 bytes; else the first fault of the file, at its place; want of memory, in place of what would come later.
+/// `InputTooLong` past 2^30 bytes; else the first fault of the file, at its place; want of memory, in place of what would come behind the header.
 /// The module is then of no use.
 pub fn parse_into<B: Drop>(
     alloc: Global,

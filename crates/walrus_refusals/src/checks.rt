@@ -1,6 +1,6 @@
 //! Checks of the items that were met.
 ghost use Rattle.std.specs.Prelude.{◌≡◌, ◌<◌, ◌≤◌, ◌^◌, Decides, IfOk};
-ghost use Rattle.walrus_linked.specs.walrus_module.Parts.{parts};
+ghost use Rattle.walrus_used.specs.walrus_module.Parts.{parts};
 ghost use Rattle.walrus_roots.specs.declared.item.Item.{Item as AnyItem};
 ghost use Rattle.walrus_roots.specs.Items.{space_number};
 ghost use Rattle.walrus_marks.specs.Chains.{FitsIn};

@@ -1,6 +1,6 @@
 //! What imports bring that was never given out.
 ghost use Rattle.std.specs.Prelude.{◌≡◌, IfOk, OnOk, length};
-ghost use Rattle.walrus_linked.specs.walrus_module.Parts.{parts};
+ghost use Rattle.walrus_used.specs.walrus_module.Parts.{parts};
 ghost use Rattle.walrus_refusals.specs.Checks.{AreClaims, IsAddedPast};
 
 use crate::linked::brought;

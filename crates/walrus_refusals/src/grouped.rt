@@ -2,7 +2,7 @@
 ghost use Rattle.std.specs.Prelude.{◌≡◌, Contains, Decides, IfOk, ℕ};
 ghost use Rattle.std.specs.Option.{option_map};
 ghost use Rattle.walrus_items.specs.Items.{group_of};
-ghost use Rattle.walrus_linked.specs.walrus_module.Parts.{parts};
+ghost use Rattle.walrus_used.specs.walrus_module.Parts.{parts};
 ghost use Rattle.walrus_refusals.specs.Grouped.{are_one, begin_alike};
 ghost use Rattle.walrus_refusals.specs.Written.{AreInOneGroup, MayName, NamesNoLater, StaysInGroup};
 

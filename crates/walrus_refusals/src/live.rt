@@ -1,8 +1,8 @@
 //! Whether items live.
 ghost use Rattle.std.specs.Prelude.{Decides, IfOk, IsSome};
-ghost use Rattle.walrus_linked.specs.walrus_module.Parts.{parts};
-ghost use Rattle.walrus_linked.specs.walrus_module.Items.{written_type};
-ghost use Rattle.walrus_linked.specs.walrus_module.Items.{Lives};
+ghost use Rattle.walrus_used.specs.walrus_module.Parts.{parts};
+ghost use Rattle.walrus_used.specs.walrus_module.Items.{written_type};
+ghost use Rattle.walrus_used.specs.walrus_module.Items.{Lives};
 
 use std::alloc::AllocError;
 use walrus_arena::TypeId;

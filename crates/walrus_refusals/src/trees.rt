@@ -1,8 +1,8 @@
 //! Whether bodies are trees.
 ghost use Rattle.std.specs.Prelude.{Decides, IfOk, MatchOption};
-ghost use Rattle.walrus_linked.specs.walrus_module.Parts.{parts};
+ghost use Rattle.walrus_used.specs.walrus_module.Parts.{parts};
 ghost use Rattle.walrus_arena.specs.Arena.{item_at};
-ghost use Rattle.walrus_linked.specs.walrus_module_items.declared.function.Function.{Function as AnyFunction};
+ghost use Rattle.walrus_used.specs.walrus_module.walrus_module_items.declared.function.Function.{Function as AnyFunction};
 ghost use Rattle.walrus_used.specs.walrus_references.Refused.{FormsTree, HasTree};
 
 use std::alloc::{AllocError, Global};

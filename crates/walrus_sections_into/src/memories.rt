@@ -3,8 +3,8 @@
 ghost use Rattle.std.specs.Prelude.{◌≡◌, IfErr, OnOk, OnErr};
 ghost use Rattle.walrus_known_sections.specs.Items.{memory_of};
 ghost use Rattle.walrus_arena.specs.Arena.{next_id};
-ghost use Rattle.walrus_meaning.specs.walrus_linked.walrus_collections.Added.{Adds};
-ghost use Rattle.walrus_meaning.specs.Meaning.{own_memory};
+ghost use Rattle.walrus_collections.specs.Added.{Adds};
+ghost use Rattle.walrus_collections.specs.walrus_module_items.Words.{own_memory};
 ghost use Rattle.walrus_sections_into.specs.Slots.{Filled, FilledInPart, IsMemoryOf};
 ghost use Rattle.walrus_sections_into.specs.declared.error.IntoError.TheVariants.{Memory as NoMemory};
 

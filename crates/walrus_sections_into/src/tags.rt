@@ -3,7 +3,7 @@
 ghost use Rattle.std.specs.Prelude.{◌≡◌, IfErr, OnOk, OnErr};
 ghost use Rattle.std.specs.List.{Any};
 ghost use Rattle.walrus_arena.specs.Arena.{next_id};
-ghost use Rattle.walrus_meaning.specs.walrus_linked.walrus_collections.Added.{Adds};
+ghost use Rattle.walrus_collections.specs.Added.{Adds};
 ghost use Rattle.walrus_index_maps.specs.Views.{ids};
 ghost use Rattle.walrus_sections_into.specs.Becomes.{look_of};
 ghost use Rattle.walrus_sections_into.specs.Lacks.{TagLacks};

@@ -15,13 +15,14 @@ pub use sweep::{Check, Reached};
 
 // Passed on to crates above, which then list this one alone.
 pub mod collections {
-    pub use walrus_collections::{
-        Collection, ModuleData, ModuleElements, ModuleFunctions, ModuleImports,
+    pub use walrus_module::collections::{
+        Collection, ModuleData, ModuleElements, ModuleFunctions, ModuleGlobals, ModuleImports,
+        ModuleMemories, ModuleTables, ModuleTags,
     };
 }
 
 pub mod local_function {
-    pub use walrus_collections::local_function::LocalFunction;
+    pub use walrus_module::local_function::LocalFunction;
 }
 
 pub mod module {

@@ -22,11 +22,11 @@ use std::alloc::{AllocError, Global};
 use walrus_arena::{
     DataId, ElementId, FunctionId, GlobalId, LocalId, MemoryId, TableId, TagId, TypeId,
 };
-use walrus_collections::module_items::FunctionKind;
-use walrus_collections::{ModuleData, ModuleElements, ModuleGlobals, ModuleTags};
 use walrus_items::ModuleLocals;
 use walrus_marks::Marks;
 use walrus_module::Module;
+use walrus_module::collections::{ModuleData, ModuleElements, ModuleGlobals, ModuleTags};
+use walrus_module::module_items::FunctionKind;
 use walrus_roots::Item;
 use walrus_types::ModuleTypes;
 use wasm_formats::Space;

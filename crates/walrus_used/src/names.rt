@@ -10,12 +10,12 @@ ghost use Rattle.walrus_marks.specs.Named.{items_of};
 ghost use Rattle.walrus_references.specs.References.{init_items, value_items, data_items, place_items, held_items};
 
 use walrus_arena::{FunctionId, TypeId};
-use walrus_collections::module_items::{
-    DataKind, Element, ElementItems, ElementKind, Global, GlobalKind, Table,
-};
 use walrus_forms::{HeapType, RefType, ValType};
 use walrus_instr::ConstExpr;
 use walrus_marks::Marks;
+use walrus_module::module_items::{
+    DataKind, Element, ElementItems, ElementKind, Global, GlobalKind, Table,
+};
 use walrus_roots::Item;
 use wasm_formats::Space;
 

@@ -11,10 +11,10 @@ ghost use Rattle.walrus_arena.specs.Arena.{item_at, next_id};
 
 use std::alloc::AllocError;
 use walrus_arena::{DataId, DataSpace, ElementId, ExportId, ExportSpace, FunctionId, Id, TableId};
-use walrus_collections::module_items::{Data, DataKind, ElementKind, Export, ExportItem};
-use walrus_collections::{Collection, ModuleTables};
 use walrus_marks::Marks;
 use walrus_module::Module;
+use walrus_module::collections::{Collection, ModuleTables};
+use walrus_module::module_items::{Data, DataKind, ElementKind, Export, ExportItem};
 use walrus_roots::Item;
 use wasm_formats::Space;
 

@@ -12,10 +12,10 @@ ghost use Rattle.walrus_used.specs.Looks.{AreActive, listed, listed_segment, liv
 use crate::roots::list_rooted;
 use std::alloc::{AllocError, Global};
 use walrus_arena::{DataSpace, ElementId, ElementSpace, IdHashSet};
-use walrus_collections::module_items::ElementKind;
-use walrus_collections::{ModuleData, ModuleElements};
 use walrus_marks::Marks;
 use walrus_module::Module;
+use walrus_module::collections::{ModuleData, ModuleElements};
+use walrus_module::module_items::ElementKind;
 use walrus_roots::Item;
 use wasm_formats::Space;
 
