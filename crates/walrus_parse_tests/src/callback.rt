@@ -1,8 +1,8 @@
 //! What a callback is handed of a file, and what it answers.
 
+use crate::files::{EMPTY, NOP, RETURNS};
 use crate::helpers::{Ask, has, refused};
 use crate::locations::later;
-use crate::read::{EMPTY, NOP, RETURNS};
 use std::alloc::Global;
 use walrus_config::ModuleConfig;
 use walrus_counts::count;

@@ -1,8 +1,8 @@
 //! What stands in the place of locations. They count from the count of bodies in the file's code section.
 
 use crate::callback::{Act, read_with};
+use crate::files::{CALLS, IF};
 use crate::helpers::{Ask, Call, has, read_by, refused};
-use crate::read::{CALLS, IF};
 use std::alloc::{AllocError, Global};
 use walrus_config::ModuleConfig;
 use walrus_errors::Result;
