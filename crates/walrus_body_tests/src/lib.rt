@@ -1,19 +1,12 @@
-//! Tests of bodies that are read, in a module of their own, and written again, of bodies and locals that are written, of frames, and of
-//! operators, each call with ample memory.
+//! Tests of bodies that are read, in a module of their own, and written again, and of operators, each call that takes memory with ample memory.
 #![tactic(auto)]
 
 #[cfg(test)]
 mod bench;
 #[cfg(test)]
-mod built;
-#[cfg(test)]
 mod forms;
 #[cfg(test)]
-mod frames;
-#[cfg(test)]
 mod handlers;
-#[cfg(test)]
-mod locals;
 #[cfg(test)]
 mod module;
 #[cfg(test)]
@@ -26,5 +19,3 @@ mod rows;
 mod table;
 #[cfg(test)]
 mod validators;
-#[cfg(test)]
-mod words;

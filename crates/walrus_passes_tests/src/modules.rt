@@ -8,7 +8,7 @@ use walrus_arena::{
     DataId, ExportId, FunctionId, GlobalId, Id, ImportId, InstrSeqId, LocalId, MemoryId, TableId,
     TypeId, UntypedCustomSectionId,
 };
-use walrus_builder::{FunctionBuilder, check_nesting};
+use walrus_builder::FunctionBuilder;
 use walrus_config::ModuleConfig;
 use walrus_errors::{Form, ModuleError, Space};
 use walrus_forms::{FieldType, HeapType, RefType, StorageType, ValType};
@@ -83,10 +83,6 @@ pub(crate) enum Step {
     /// The function is to be used, or not.
     Used(usize),
     Unused(usize),
-    /// The import `mod`, `dummy` is to be found by its names and by its function.
-    Found(usize),
-    /// The body is not to be nested.
-    NotNested(usize),
     /// Imported items and own ones in each space. All of them are to live, or those alone that are used.
     EachSpace,
     AllLive,
@@ -268,25 +264,6 @@ fn uses(alloc: Global, module: &Module, function: FunctionId) -> bool {
     }
 }
 
-// Whether the import is found by its names, as one of this function, and by the function.
-fn finds(module: &Module, function: FunctionId) -> bool {
-    module.imports.get_func("mod", "dummy") == Ok(function)
-        && module.imports.get_imported_func(function).is_some()
-}
-
-// Whether the function has a body that isn't nested.
-fn is_not_nested(alloc: Global, module: &Module, function: FunctionId) -> Result<bool, AllocError> {
-    if !module.funcs.contains(function) {
-        return Ok(false);
-    }
-    match &module.funcs.get(function).kind {
-        FunctionKind::Local(local) => {
-            Ok(!check_nesting(alloc, local.builder(), local.entry_block())?)
-        }
-        FunctionKind::Import(_) | FunctionKind::Uninitialized(_) => Ok(false),
-    }
-}
-
 fn function(index: usize) -> FunctionId {
     FunctionId::from_index(index & 0xff)
 }
@@ -416,8 +393,6 @@ fn take(alloc: Global, module: &mut Module, step: Step) -> Result<bool, AllocErr
         Step::NoMemory(index) => return Ok(!module.memories.contains(memory(index))),
         Step::Used(index) => return Ok(uses(alloc, module, function(index))),
         Step::Unused(index) => return Ok(!uses(alloc, module, function(index))),
-        Step::Found(index) => return Ok(finds(module, function(index))),
-        Step::NotNested(index) => return is_not_nested(alloc, module, function(index)),
         Step::AllLive => return Ok(are_all_live(module)),
         Step::Copied => return are_copied(module),
         Step::ExportsReplaced => return exports_are_replaced(alloc, module),

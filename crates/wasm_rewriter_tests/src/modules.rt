@@ -42,15 +42,3 @@ fn copies(alloc: Global) -> Result<bool, AllocError> {
 fn what_is_rewritten_is_copied(rt: HostRuntime) {
     assert!(rt; copies(rt.alloc()) == Ok(true));
 }
-
-#[test]
-fn a_call_asks_for_names_and_producers_alone(rt: HostRuntime) {
-    let want = Options {
-        only_stable_features: false,
-        legacy_exceptions: true,
-        names: true,
-        producers: true,
-        places: false,
-    };
-    assert!(rt; Options::new() == want);
-}

@@ -7,8 +7,8 @@ use walrus_builder::InstrSeqBuilder;
 use walrus_instr::{Instr, InstrLocId};
 use walrus_walks::{Visit, VisitMut};
 
-/// Adds the instruction of each row.
-pub fn add_all(alloc: Global, seq: &mut InstrSeqBuilder, text: &str) -> Result<(), AllocError> {
+// Adds the instruction of each row.
+fn add_all(alloc: Global, seq: &mut InstrSeqBuilder, text: &str) -> Result<(), AllocError> {
     let mut rest = text.as_bytes();
     for _ in 0..text.len() {
         if rest.is_empty() {

@@ -144,11 +144,10 @@ built - seqs=2 drop@3 return@4 in=1 fill=5 | 3; 0 -; 1 -@5 drop@3 return@4; 2 -
 built - seqs=2 in=1 drop@8 return ref_eq@6 | 3; 0 -; 1 - drop@8 return ref_eq@6; 2 -
 // A branch to itself.
 built - seqs=3 seq=f32 in=4 push=7,br,4 return end=9 | 5; 4 f32@9 br,4@7 return
-// A name, each form once, types without ids, and hooks by their counts: see `table`.
+// A name, each form once, and types without ids: see `table`.
 names -
 forms -
-more -
-counts - seq=- seq=#0 seq=0 seqs=5";
+more -";
 
 /// The same behind a walk that changes: the body, or as `listed` a list of copies. The walk adds 10 to functions, 20 to locals and 1 to constants, and puts
 /// `unreachable` in place of `drop`.
@@ -159,12 +158,13 @@ listed - seq=- call,1 local_get,2 drop block,1 in=1 local_tee,2@7 return_call,1@
 // A sequence that two instructions hold is handed over twice, the second time as it was left.
 changed - seq=- block,1 loop,1 in=1 i32_const,5 | 2; 0 - block,1 loop,1; 1 - i32_const,7";
 
-/// What is told by the walk in `order`, that of a `body`, and that which is `changing`.
+/// What is told by the walk in `order`, the same over a `list` of sequences, that of a `body`, and that which is `changing`.
 pub const TOLD: &str = "// A block that holds an `if`, and a legacy `try` with two handlers.
 order - seqs=6 in=1 i32_const,4 drop in=2 i32_const,3 drop in=3 i32_const,2 drop in=4 i32_const,7 drop in=5 i32_const,8 drop in=6 i32_const,9 drop in=3 if_else,2,1 i32_const,5 drop in=0 i32_const,1 drop block,3 i32_const,6 drop try,4,catch:0:5,all:6 i32_const,10 drop | start 1 drop block start 2 drop if-else start 3 drop end start 4 drop end 5 drop end 6 drop try tag start 7 drop end start 8 drop end start 9 drop end 10 drop end
 // A shared sequence is told of twice.
 order - seq=- block,1 block,1 | start block start end block start end end
 // Three blocks.
+list - block=-,2 loop=-,3 if=-,4,5 | start block start 2 end start 3 end if-else start 4 end start 5 end end
 order - block=-,2 loop=-,3 if=-,4,5 | start block start 2 end start 3 end if-else start 4 end start 5 end end
 // Four blocks, each in the one before, and five in the last of them.
 order - seqs=9 block,1 in=1 block,2 in=2 block,3 in=3 block,4 in=4 block,5 block,6 block,7 block,8 block,9 | start block start block start block start block start block start end block start end block start end block start end block start end end end end end end

@@ -1,12 +1,12 @@
 //! The rows of bodies and of constant expressions.
 use crate::bodies::constants;
 use crate::bodies::forms::{block_type, id, number};
-use crate::bodies::instrs::{add_all, adds_rows};
+use crate::bodies::instrs::adds_rows;
 use crate::bodies::rows::{BUILT, CHANGED, CONSTANTS, FORMS, LONG, MORE, NESTS, TOLD, TREES};
 use crate::bodies::shapes::have_shapes;
 use crate::bodies::steps::take;
 use crate::bodies::view::are_seqs;
-use crate::bodies::walks::told::{Walk, are_copies, counts, has_length, is_changed, tells};
+use crate::bodies::walks::told::{Walk, are_copies, has_length, is_changed, tells};
 use std::alloc::{AllocError, Global};
 use test_words::{cut, next, place};
 use walrus_builder::FunctionBuilder;
@@ -22,18 +22,12 @@ fn is_built(alloc: Global, body: &FunctionBuilder, text: &[u8]) -> Result<bool, 
     Ok(are_seqs(body.seqs(), text) && are_copies(alloc, body.seqs(), false, text)?)
 }
 
-// Whether each hook is called as often as it is to be with each form once, in both walks.
-fn counts_all(alloc: Global, body: &mut FunctionBuilder) -> Result<bool, AllocError> {
-    add_all(alloc, body.func_body(), FORMS)?;
-    Ok(counts(alloc, body, Walk::OfList)? && counts(alloc, body, Walk::Changing)?)
-}
-
 fn number_of(text: &[u8]) -> u64 {
     let (word, _) = next(text);
     number(word)
 }
 
-const KINDS: &str = "built changed listed order body changing length trees names forms more counts";
+const KINDS: &str = "built changed listed order body changing length trees names forms more list";
 
 fn is_so(
     alloc: Global,
@@ -55,7 +49,7 @@ fn is_so(
         8 => takes_name(body),
         9 => adds_rows(alloc, body.func_body(), FORMS),
         10 => adds_rows(alloc, body.func_body(), MORE),
-        11 => counts_all(alloc, body),
+        11 => tells(alloc, body, Walk::OfList, wanted),
         _ => Ok(false),
     }
 }
@@ -127,9 +121,9 @@ fn stand(alloc: Global, table: Table) -> Result<u32, AllocError> {
 
 // With how many rows there are.
 const ALL: [(Table, u32); 5] = [
-    (Table::Built, 17),
+    (Table::Built, 16),
     (Table::Changed, 3),
-    (Table::Told, 8),
+    (Table::Told, 9),
     (Table::Trees, 36),
     (Table::Constants, 13),
 ];

@@ -2,7 +2,6 @@
 
 use crate::tables::chains::is_low;
 use crate::tables::forms::{form, function};
-use crate::tables::sections::{are_read, are_taken};
 use crate::tables::values::{Word, list};
 use crate::tables::words::{are_ids, is_id, number};
 use std::alloc::{AllocError, Global};
@@ -169,8 +168,7 @@ fn are_copied(alloc: Global, types: &ModuleTypes) -> Result<bool, AllocError> {
 /// - `both`: adds the function type with the type of its body's own block, of these ids;
 /// - `ring`, `group`, `half`: adds a marked group (see `members`), and copies all types and groups;
 /// - `chain`: adds so many structures, each of which refers to the one before, behind one without fields;
-/// - `long`: a long chain of function types is found by a low index (see `chains`);
-/// - `parse`: reads a section by its letters, and gives its types these ids; `use`: does so by the call that takes the section.
+/// - `long`: a long chain of function types is found by a low index (see `chains`).
 pub(crate) fn take(alloc: Global, types: &mut ModuleTypes, step: &[u8]) -> Result<bool, IrError> {
     let (call, wanted) = cut(step, b'@');
     let (_, args) = cut(call, b':');
@@ -185,8 +183,6 @@ pub(crate) fn take(alloc: Global, types: &mut ModuleTypes, step: &[u8]) -> Resul
             add_chain(alloc, types, number(args))?;
             Ok(true)
         }
-        b'l' => Ok(is_low(types)?),
-        b'p' => Ok(are_read(alloc, types, args, wanted)?),
-        _ => Ok(are_taken(alloc, types, args, wanted)?),
+        _ => Ok(is_low(types)?),
     }
 }

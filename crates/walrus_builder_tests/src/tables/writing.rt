@@ -1,4 +1,7 @@
-//! What is written of a table of types.
+//! What is written of a table of types, and read again.
+ghost use Rattle.std.specs.Prelude.{map};
+ghost use Rattle.walrus_forms.specs.Records.{type_group};
+ghost use Rattle.walrus_types.specs.Parsing.{AreBelow};
 
 use crate::tables::records::is_group;
 use crate::tables::words::{are_ids, is_number, number};
@@ -80,12 +83,44 @@ fn writes(alloc: Global, types: &ModuleTypes, words: &[u8]) -> Result<bool, Allo
     }
 }
 
+// Whether a new table that reads the groups has as many types, and writes the same.
+fn is_read(types: &mut ModuleTypes, first: &EmittedTypes) -> Result<bool, IrError>
+    requires { AreBelow 0 (map type_group first.now.groups.items) }
+{
+    let ids = types.parse_types(first.groups.as_slice())?;
+    let second = types.emit()?;
+    Ok(
+        ids.len() == first.ids.len()
+            && second.ids.as_slice() == ids.as_slice()
+            && second.groups.as_slice() == first.groups.as_slice(),
+    )
+}
+
+fn is_steady(alloc: Global, first: &EmittedTypes) -> Result<bool, IrError>
+    requires { AreBelow 0 (map type_group first.now.groups.items) }
+{
+    let mut types = ModuleTypes::new(alloc);
+    is_read(&mut types, first)
+}
+
+// Whether a second round changes nothing.
+fn is_settled(alloc: Global, types: &ModuleTypes) -> Result<bool, IrError> {
+    let first = types.emit()?;
+    is_steady(alloc, &first)
+}
+
 /// Whether the table writes what stands behind a `|`, if anything does:
 ///
 /// - the groups (see `records`), behind an `@` the index of each type, and behind a `#` the ids in their order;
 /// - a number, where so many types are written, each at its own;
 /// - behind a `!` the fault of the first name with which anything is wrong.
+///
+/// Behind two `|` what is written is also read by a new table and written again, and nothing changes.
 pub(crate) fn are_so(alloc: Global, types: &ModuleTypes, rest: &[u8]) -> Result<bool, IrError> {
-    let (_, words) = cut(rest, b' ');
-    Ok(rest.is_empty() || writes(alloc, types, words)?)
+    let (mark, words) = cut(rest, b' ');
+    if rest.is_empty() {
+        return Ok(true);
+    }
+    let is_settled = mark.is_empty() || is_settled(alloc, types)?;
+    Ok(is_settled && writes(alloc, types, words)?)
 }

@@ -14,8 +14,6 @@ pub struct Log {
     /// Words, each with a blank before it.
     pub text: Vec<u8>,
     pub refused: bool,
-    /// How many instructions it was told of.
-    pub instrs: usize,
 }
 
 impl Log {
@@ -24,7 +22,6 @@ impl Log {
         Ok(Log {
             text: Vec::with_capacity(alloc, room)?,
             refused: false,
-            instrs: 0,
         })
     }
 
@@ -79,7 +76,6 @@ impl Visitor for Log {
     }
 
     fn visit_instr(&mut self, instr: &Instr, _place: &InstrLocId) {
-        self.instrs = self.instrs.wrapping_add(1);
         if let Some(place) = form(instr) {
             self.write(nth(FORMS.as_bytes(), place));
         }

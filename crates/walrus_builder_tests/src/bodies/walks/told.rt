@@ -1,9 +1,8 @@
 //! What walks tell of a body, and what the walk that changes makes of it.
 use super::log::Log;
-use crate::bodies::forms::{id, number};
+use crate::bodies::forms::id;
 use crate::bodies::view::are_seqs;
 use std::alloc::{AllocError, Global};
-use test_words::next;
 use walrus_builder::{
     FunctionBuilder, check_nesting, dfs_body_in_order, dfs_in_order, dfs_pre_order_mut,
 };
@@ -132,39 +131,4 @@ pub fn is_changed(
     let mut log = Log::new(alloc, 0)?;
     go(alloc, body, &mut log, Walk::Changing)?;
     Ok(body.ty().index() == 0 && are_seqs(body.seqs(), text))
-}
-
-// How often the word stands in the text.
-fn count(text: &[u8], word: &[u8]) -> u64 {
-    let mut rest = text;
-    let mut found = 0u64;
-    for _ in 0..text.len() {
-        let (one, more) = next(rest);
-        found = found.wrapping_add(u64::from(one == word));
-        rest = more;
-    }
-    found
-}
-
-// By the table of operators, for 93 forms in one sequence and the empty ones that they hold.
-const COUNTS: &str =
-    "start 9 end 9 label 13 local 3 memory 13 table 10 global 2 function 3 data 4 type 34 element 4 tag 4 value 1";
-
-fn are_counted(log: &Log) -> bool {
-    let mut agree = !log.refused && log.instrs == 93;
-    let mut rest = COUNTS.as_bytes();
-    for _ in 0..13 {
-        let (word, more) = next(rest);
-        let (wanted, more) = next(more);
-        agree &= count(log.text.as_slice(), word) == number(wanted);
-        rest = more;
-    }
-    agree && rest.is_empty()
-}
-
-/// Whether the walk calls each hook as often as it is to be for each form once.
-pub fn counts(alloc: Global, body: &mut FunctionBuilder, kind: Walk) -> Result<bool, AllocError> {
-    let mut log = Log::new(alloc, 0)?;
-    go(alloc, body, &mut log, kind)?;
-    Ok(are_counted(&log))
 }
