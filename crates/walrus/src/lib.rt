@@ -15,20 +15,20 @@ pub use walrus_emit::{Emit, EmitContext, EmitWasm};
 pub use walrus_errors::{ErrorKind, Form, Limited, ModuleError, Result, Space};
 pub use walrus_index_maps::{IdsToIndices, IndicesToIds};
 pub use walrus_ir as ir;
-pub use walrus_meaning_kept::module::Module;
+pub use walrus_module::Module;
 pub use walrus_module_items::{
     Data, DataKind, Element, ElementItems, ElementKind, Export, ExportItem, FuncParams,
     FuncResults, Function, FunctionKind, Global, GlobalKind, Import, ImportKind, ImportedFunction,
     Memory, Table, Tag, TagKind,
 };
-pub use walrus_parsed_ruled::parse::{FromBuffer, Parse, parse_into};
+pub use walrus_parse::{FromBuffer, Parse, parse_into};
 pub use walrus_sections::{
     CodeTransform, CustomSection, ModuleCustomSections, Section, SectionFault, Sections,
 };
 
 /// What of a module is used, and dropping the rest.
 pub mod passes {
-    pub use walrus_meaning_kept::passes::{Used, gc};
+    pub use walrus_passes::{Used, gc};
     pub use walrus_roots::{Item, Roots};
 }
 

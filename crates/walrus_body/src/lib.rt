@@ -4,8 +4,8 @@
 
 pub use walrus_body_env::{AcceptAll, BodyEnv, BodyError, Validator};
 pub use walrus_body_frames::{BlockKind, ControlFrame, IfElseState, ValidationContext};
-pub use walrus_emission_laws::body_names::FunctionFacts;
-pub use walrus_emission_laws::body_writer::Output;
+pub use walrus_body_names::FunctionFacts;
+pub use walrus_body_names::body_writer::Output;
 pub use walrus_index_maps::{IdsToIndices, IndicesToIds, Space as IndexSpace, UnknownIndex};
 pub use walrus_local_function::LocalFunction;
 pub use walrus_operators::{Immediates, Operator, OperatorError, OperatorReader, write_operator};

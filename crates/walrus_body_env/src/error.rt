@@ -2,10 +2,12 @@
 
 ghost use Rattle.std.specs.Prelude.{◌≡◌, Some};
 ghost use Rattle.walrus_body_env.specs.Faults.{body_error_text, number_of, offset_of};
-ghost use Rattle.walrus_body_env.specs.declared.error.BodyError.TheVariants.{Memory};
+ghost use Rattle.walrus_body_env.specs.declared.error.BodyError.TheVariants.{Index, Limit, Memory};
+ghost use Rattle.walrus_body_env.specs.Refusals.{module_error, place_of};
 
 use std::alloc::{AllocError, AllocFailed};
 use std::{error, fmt};
+use walrus_errors::ModuleError;
 use walrus_operators::the_reader::{Error, ErrorKind};
 use wasm_formats::{Form, Limited, Space};
 
@@ -125,5 +127,71 @@ impl From<AllocError> for BodyError {
 
     fn from(_refused: AllocError) -> BodyError {
         BodyError::Memory
+    }
+}
+
+// Where a body is read its refusals have places; a fault without one stands at the beginning.
+fn place_of(place: Option<u64>) -> u64
+    ensures { result ≡ place_of place }
+{
+    match place {
+        Some(place) => place,
+        None => 0,
+    }
+}
+
+fn index_error(space: Space, place: Option<u64>) -> ModuleError
+    ensures { result ≡ module_error (Index space place) }
+{
+    match place {
+        Some(offset) => ModuleError::Index { space, offset },
+        None => ModuleError::DeadReference { space },
+    }
+}
+
+fn limit_error(of: Limited, place: Option<u64>) -> ModuleError
+    ensures { result ≡ module_error (Limit of place) }
+{
+    match place {
+        Some(offset) => ModuleError::Limit { of, offset },
+        None => ModuleError::OutputLimit { of },
+    }
+}
+
+impl From<BodyError> for ModuleError {
+    ghost use Rattle.std.specs.Prelude.{◌≡◌};
+    ghost use Rattle.walrus_body_env.specs.Refusals.{module_error};
+
+    ghost from_gives = { λ fault error. error ≡ module_error fault };
+
+    /// The same refusal, of the module. A fault without a place is one of a body that is written: what has no number isn't there, and a
+    /// limit is one of the output.
+    fn from(fault: BodyError) -> ModuleError {
+        match fault {
+            BodyError::Read(error) => ModuleError::from(error),
+            BodyError::Index { space, offset } => index_error(space, offset),
+            BodyError::TypeForm { offset } => ModuleError::TypeForm {
+                offset: place_of(offset),
+            },
+            BodyError::Nesting { offset } => ModuleError::Nesting {
+                offset: place_of(offset),
+            },
+            BodyError::Position { offset } => ModuleError::Position {
+                offset: place_of(offset),
+            },
+            BodyError::Operator { offset } => ModuleError::Operator {
+                offset: place_of(offset),
+            },
+            BodyError::Unsupported { form, offset } => ModuleError::Unsupported {
+                form,
+                offset: place_of(offset),
+            },
+            BodyError::Bounds { offset } => ModuleError::Bounds {
+                offset: place_of(offset),
+            },
+            BodyError::Limit { of, offset } => limit_error(of, offset),
+            BodyError::NoTree => ModuleError::NoTree,
+            BodyError::Memory => ModuleError::Memory,
+        }
     }
 }

@@ -11,7 +11,7 @@ pub use validator::{AcceptAll, Validator};
 
 // Passed on to crates above, which then list this one alone.
 pub mod instr {
-    pub use walrus_instr::{InstrLocId, InstrSeqType, TryTableCatch};
+    pub use walrus_instr::{InstrSeqType, TryTableCatch};
 
     pub mod type_table {
         pub use walrus_instr::type_table::{ModuleLocals, ModuleTypes, ValType};

@@ -8,7 +8,7 @@ pub use runs::read_locals;
 
 // Passed on to crates above, which then list this one alone.
 pub mod body_env {
-    pub use walrus_body_nesting::body_env::{BodyEnv, BodyError, Validator};
+    pub use walrus_body_env::{BodyEnv, BodyError, Validator};
 }
 
 pub mod body_nesting {

@@ -12,7 +12,7 @@ ghost use Rattle.walrus_body_locals.specs.Locals.{Adds, Declares, IsRunOf, Leave
 use crate::value_types::read_type;
 use std::alloc::{AllocError, Global};
 use walrus_arena::FunctionId;
-use walrus_body_nesting::body_env::{BodyError, Validator};
+use walrus_body_env::{BodyError, Validator};
 use walrus_index_maps::IndicesToIds;
 use walrus_pairing::type_table::{ModuleLocals, ValType};
 use wasm_formats::Limited;

@@ -8,7 +8,7 @@ ghost use Rattle.walrus_body_locals.specs.Locals.{IsTypeOf, trouble_of};
 ghost use Rattle.walrus_body_nesting.specs.Faults.{fault_at};
 
 use std::alloc::Global;
-use walrus_body_nesting::body_env::BodyError;
+use walrus_body_env::BodyError;
 use walrus_index_maps::IndicesToIds;
 use walrus_pairing::type_table::ValType;
 use walrus_pairing::{PairError, read_value};

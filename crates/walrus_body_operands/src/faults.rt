@@ -3,7 +3,7 @@
 ghost use Rattle.std.specs.Prelude.{◌≡◌};
 ghost use Rattle.walrus_body_operands.specs.Asked.{pair_fault, space_in};
 
-use walrus_body_steps::body_env::BodyError;
+use walrus_body_env::BodyError;
 use walrus_index_maps as maps;
 use walrus_pairing::PairError;
 use wasm_formats::{Form, Limited, Space};

@@ -5,8 +5,8 @@ ghost use Rattle.walrus_body_operands.specs.Asked.{Meets, label_test};
 
 use crate::faults::no_item;
 use walrus_arena::InstrSeqId;
-use walrus_body_steps::body_env::BodyError;
-use walrus_body_steps::body_stack::Stack;
+use walrus_body_env::BodyError;
+use walrus_body_stack::Stack;
 use wasm_formats::Space;
 
 /// The open sequences of a body, the innermost first, each with its label: its place in that order.

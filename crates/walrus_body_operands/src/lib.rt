@@ -18,9 +18,9 @@ pub use steps::{Step, instr_on, opened_type, opener_of, part_of, step_of};
 
 // Passed on to crates above, which then list this one alone.
 pub mod body_stack {
-    pub use walrus_body_steps::body_stack::Stack;
+    pub use walrus_body_stack::Stack;
 }
 
 pub mod builder {
-    pub use walrus_body_steps::builder::FunctionBuilder;
+    pub use walrus_builder::FunctionBuilder;
 }

@@ -13,7 +13,7 @@ use crate::scope::Scope;
 use crate::types::{block_type, check_block};
 use std::alloc::Global;
 use walrus_arena::TagId;
-use walrus_body_steps::body_env::BodyError;
+use walrus_body_env::BodyError;
 use walrus_instr::{InstrSeqType, TryTableCatch};
 use wasm_formats::Space;
 use wasm_operators::{BlockType, Clause};

@@ -24,7 +24,7 @@ use crate::scope::Scope;
 use crate::types::{check_heap, check_values, heap_type, value_type};
 use std::alloc::Global;
 use walrus_arena::InstrSeqId;
-use walrus_body_steps::body_env::BodyError;
+use walrus_body_env::BodyError;
 use walrus_forms::RefType;
 use walrus_instr::Instr;
 use walrus_operators::{Immediates, Operator};

@@ -5,7 +5,7 @@ ghost use Rattle.walrus_index_maps.specs.Views.{ids};
 ghost use Rattle.walrus_body_steps.specs.walrus_body_rules.Sights.{Sight};
 
 use walrus_arena::{FunctionId, MemoryId, TagId, TypeId};
-use walrus_body_steps::body_env::BodyEnv;
+use walrus_body_env::BodyEnv;
 use walrus_forms::ValType;
 use walrus_index_maps::IndicesToIds;
 use walrus_instr::InstrSeqType;

@@ -10,7 +10,7 @@ ghost use Rattle.walrus_body_operands.specs.Asked.{IsTested, Meets, heap_test, i
 use crate::faults::{fault_of, no_item, unsupported};
 use crate::scope::Scope;
 use walrus_arena::TypeId;
-use walrus_body_steps::body_env::BodyError;
+use walrus_body_env::BodyError;
 use walrus_forms::{HeapType, ValType};
 use walrus_instr::InstrSeqType;
 use walrus_pairing::{read_heap, read_value};

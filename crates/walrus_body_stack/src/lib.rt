@@ -13,14 +13,6 @@ pub use flow::cuts;
 pub use stack::Stack;
 
 // Passed on to crates above, which then list this one alone.
-pub mod body_env {
-    pub use walrus_body_nesting::body_env::{BodyEnv, BodyError};
-}
-
 pub mod body_nesting {
     pub use walrus_body_nesting::Opener;
-}
-
-pub mod builder {
-    pub use walrus_body_nesting::builder::FunctionBuilder;
 }

@@ -17,8 +17,8 @@ use crate::nest::Nest;
 use crate::pile::Pile;
 use std::alloc::{AllocError, Global};
 use walrus_arena::InstrSeqId;
-use walrus_body_nesting::builder::FunctionBuilder;
 use walrus_body_nesting::{Opener, Reach};
+use walrus_builder::FunctionBuilder;
 use walrus_instr::{Instr, InstrLocId, InstrSeqType, TryTableCatch};
 
 /// A body that is read: its open sequences, in a list, so that their number is bounded by memory alone.

@@ -15,7 +15,7 @@ use crate::handlers::Handlers;
 use crate::stack::Stack;
 use std::alloc::AllocError;
 use walrus_arena::{InstrSeqId, TagId};
-use walrus_body_nesting::body_env::BodyError;
+use walrus_body_env::BodyError;
 use walrus_instr::{InstrLocId, InstrSeqType};
 
 impl Sort {

@@ -1,7 +1,7 @@
 //! What the iterators of a collection give.
 ghost use Rattle.walrus_collection_laws.specs.Given.{ItemsAreLive, LocalsAreLive};
 
-use walrus_linked::collections::{Collection, ModuleFunctions};
+use walrus_collections::{Collection, ModuleFunctions};
 
 /// The iterators over items and ids give each live item once, by rising id.
 pub fn items_are_live<T, S>(collection: &Collection<T, S>)

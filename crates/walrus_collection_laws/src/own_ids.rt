@@ -18,12 +18,12 @@ use walrus_arena::{
     DataId, ElementId, ExportId, FunctionId, GlobalId, Id, ImportId, MemoryId, TableId, TagId,
     Tombstone, TypeId,
 };
-use walrus_forms::{RefType, ValType};
-use walrus_instr::ConstExpr;
-use walrus_linked::collections::{
+use walrus_collections::{
     Collection, ModuleData, ModuleElements, ModuleExports, ModuleFunctions, ModuleGlobals,
     ModuleImports, ModuleMemories, ModuleTables, ModuleTags,
 };
+use walrus_forms::{RefType, ValType};
+use walrus_instr::ConstExpr;
 use walrus_module_items::local_function::LocalFunction;
 use walrus_module_items::{DataKind, ElementItems, ElementKind, ExportItem, ImportKind};
 

@@ -8,10 +8,6 @@ pub mod body_laws {
     pub use walrus_body_laws::laws;
 }
 
-pub mod body_names {
-    pub use walrus_body_names::FunctionFacts;
-}
-
 pub mod body_steps {
     pub use walrus_body_steps::laws;
 }
@@ -20,18 +16,14 @@ pub mod body_trees {
     pub use walrus_body_trees::{laws, meaning};
 }
 
-pub mod body_writer {
-    pub use walrus_body_names::body_writer::Output;
-}
-
 pub mod local_numbers {
     pub use walrus_local_numbers::laws;
 }
 
-pub mod run_laws {
-    pub use wasm_run_laws::laws;
-}
-
 pub mod machine {
     pub use wasm_runs::laws;
+}
+
+pub mod run_laws {
+    pub use wasm_run_laws::laws;
 }

@@ -7,7 +7,7 @@ use crate::context::{Emission, EmitContext};
 use std::alloc::{AllocError, Global};
 use walrus_arena::{FunctionId, LocalId};
 use walrus_body_writer::{Output, emit_instructions};
-use walrus_emit_numbers::{BodyFacts, refusal_of_body};
+use walrus_emit_numbers::BodyFacts;
 use walrus_emit_parts::{put_front, write_byte, write_bytes, write_number};
 use walrus_errors::{Limited, ModuleError, Result, Space};
 use walrus_index_maps::IdsToIndices;
@@ -59,12 +59,8 @@ fn write_locals(
     let function = body.facts.function;
     let used = body.facts.used_locals.as_slice();
     let bytes = &mut out.bytes;
-    let written = body
-        .local
-        .emit_locals(alloc, used, body.locals, function, maps, bytes);
-    if let Err(fault) = written {
-        return Err(refusal_of_body(fault));
-    }
+    body.local
+        .emit_locals(alloc, used, body.locals, function, maps, bytes)?;
     let arguments = body.local.args.len();
     if local_count(&*maps, function, arguments, used) > MAX_LOCALS {
         let of = Limited::Locals;
@@ -81,10 +77,7 @@ fn write_operators(
     out: &mut Output,
 ) -> Result<()> {
     let function = body.facts.function;
-    let written = emit_instructions(alloc, body.local.builder(), function, maps, out);
-    if let Err(fault) = written {
-        return Err(refusal_of_body(fault));
-    }
+    emit_instructions(alloc, body.local.builder(), function, maps, out)?;
     if out.bytes.len() > MAX_BODY {
         let of = Limited::Body;
         return Err(ModuleError::OutputLimit { of });

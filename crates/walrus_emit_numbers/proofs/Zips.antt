@@ -3,14 +3,15 @@ use Rattle.std.proofs.Common.{ℕ, ◌≡◌, List, [], ◌∷◌, ◌++◌, ref
 use Rattle.std.specs.List.{AllZip}
 use Rattle.walrus_body_names.specs.walrus_body_env.declared.error.BodyError.{BodyError}
 use Rattle.walrus_body_names.specs.walrus_body_env.declared.error.BodyError.TheVariants as faults
+use Rattle.walrus_body_names.specs.walrus_body_env.Refusals.{module_error}
 use Rattle.walrus_body_names.specs.walrus_body_writer.walrus_body_text.Walking.{IsCause}
 use Rattle.walrus_instr.specs.declared.seq.InstrSeq.{InstrSeq}
 use Rattle.walrus_module.specs.walrus_local_function.declared.local_function.LocalFunction.{LocalFunction}
 use Rattle.walrus_emit_numbers.specs.declared.facts.BodyFacts.{BodyFacts}
 use Rattle.walrus_emit_numbers.specs.Facts.{AreFacts}
-use Rattle.walrus_emit_numbers.specs.Refusals.{IsRefused, refusal}
+use Rattle.walrus_emit_numbers.specs.Refusals.{IsRefused}
 
-pub refused_of : (seqs : List InstrSeq) (e : BodyError) → IsCause seqs e → IsRefused (refusal e)
+pub refused_of : (seqs : List InstrSeq) (e : BodyError) → IsCause seqs e → IsRefused (module_error e)
 refused_of seqs faults.NoTree h = inl refl
 refused_of seqs faults.Memory h = inr refl
 refused_of seqs (faults.Read error) h = absurd h

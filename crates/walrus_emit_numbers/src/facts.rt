@@ -8,7 +8,6 @@ ghost use Rattle.walrus_emit_numbers.specs.Facts.{AreFacts};
 ghost use Rattle.walrus_emit_numbers.specs.Refusals.{IsRefused};
 
 use crate::referred::named_functions;
-use crate::refusals::refusal_of_body;
 use std::alloc::Global;
 use walrus_arena::{FunctionId, LocalId};
 use walrus_errors::Result;
@@ -35,14 +34,8 @@ fn facts_at(alloc: Global, function: FunctionId, local: &LocalFunction) -> Resul
     ensures facts { IfOk result (AreFacts (function, local.now)) }
     ensures refused { IfErr result IsRefused }
 {
-    let facts = match local.emit_facts(alloc) {
-        Ok(facts) => facts,
-        Err(fault) => return Err(refusal_of_body(fault)),
-    };
-    let referred = match named_functions(alloc, local.builder()) {
-        Ok(referred) => referred,
-        Err(fault) => return Err(refusal_of_body(fault)),
-    };
+    let facts = local.emit_facts(alloc)?;
+    let referred = named_functions(alloc, local.builder())?;
     Ok(BodyFacts {
         function,
         size: facts.size,

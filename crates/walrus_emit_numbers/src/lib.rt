@@ -8,7 +8,6 @@ mod give;
 mod numbers;
 mod order;
 mod referred;
-mod refusals;
 mod turns;
 
 pub use declared::undeclared;
@@ -16,4 +15,3 @@ pub use facts::{BodyFacts, facts_of};
 pub use numbers::number;
 pub use order::{function_order, names_data};
 pub use referred::named_functions;
-pub use refusals::refusal_of_body;

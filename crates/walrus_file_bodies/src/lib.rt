@@ -12,16 +12,8 @@ pub mod body_trees {
     }
 }
 
-pub mod functions_into {
-    pub use walrus_items_into::functions_into::FunctionBody;
-}
-
 pub mod items_into {
-    pub use walrus_items_into::read_items;
-
     pub mod functions_into {
-        pub use walrus_items_into::functions_into::pair_bodies;
-
         pub mod laws {
             pub use walrus_items_into::functions_into::laws::read_functions_stand;
         }
@@ -43,72 +35,10 @@ pub mod items_into {
     }
 
     pub mod module_env {
-        pub mod body_env {
-            pub use walrus_items_into::module_env::body_env::BodyError;
-
-            pub mod instr {
-                pub use walrus_items_into::module_env::body_env::instr::InstrLocId;
-
-                pub mod type_table {
-                    pub use walrus_items_into::module_env::body_env::instr::type_table::{
-                        ModuleLocals, ModuleTypes,
-                    };
-                }
-            }
-        }
-
         pub mod laws {
             pub use walrus_items_into::module_env::laws::{blocks_are_named, picks_are_seen};
         }
     }
-
-    pub mod tables_into {
-        pub mod sections {
-            pub use walrus_items_into::tables_into::sections::Sections;
-        }
-
-        pub mod sections_into {
-            pub mod index_maps {
-                pub use walrus_items_into::tables_into::sections_into::index_maps::IndicesToIds;
-            }
-
-            pub mod known_sections {
-                pub use walrus_items_into::tables_into::sections_into::known_sections::{
-                    Chunk, Custom, Sections,
-                };
-            }
-
-            pub mod operators {
-                pub mod immediate_forms {
-                    pub mod reader {
-                        pub mod features {
-                            pub use walrus_items_into::tables_into::sections_into::operators::immediate_forms::reader::features::WasmFeatures;
-                        }
-                    }
-                }
-            }
-        }
-    }
-}
-
-pub mod locations {
-    pub use walrus_items_into::locations::send_locations;
-}
-
-pub mod module_bodies {
-    pub use walrus_items_into::module_bodies::{FileEnv, read_bodies, read_function};
-
-    pub mod laws {
-        pub use walrus_items_into::module_bodies::laws::bodies_hold_theirs;
-    }
-}
-
-pub mod module_items {
-    pub use walrus_items_into::module_items::FunctionKind;
-}
-
-pub mod payloads_into {
-    pub use walrus_items_into::payloads_into::{names_in, producers_in};
 }
 
 pub mod spelled_modules {

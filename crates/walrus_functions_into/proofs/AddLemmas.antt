@@ -5,7 +5,7 @@ use Rattle.std.specs.List.{range_with_len}
 use Rattle.std.proofs.lemmas.List.{append-nil, append_assoc, length-append, length-take-le, take-append-drop}
 use Rattle.walrus_arena.specs.Arena.{Arena, item_at, next_id, with_item}
 use Rattle.walrus_index_maps.specs.Maps.{Ids}
-use Rattle.walrus_locations.specs.walrus_collections.walrus_module_items.declared.function.Function.{Function}
+use Rattle.walrus_collections.specs.walrus_module_items.declared.function.Function.{Function}
 use Rattle.walrus_types_into.specs.walrus_known_sections.declared.items.Function.{Function as ReadFunction}
 use Rattle.walrus_functions_into.specs.Functions.{AddsFunctions, NumbersSome, function_as, functions_from, with_functions}
 

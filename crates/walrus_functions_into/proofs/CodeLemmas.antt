@@ -4,7 +4,7 @@ use Rattle.std.specs.List.{filter_map, cons_option}
 use Rattle.std.specs.Option.{option_map}
 use Rattle.std.specs.Global.{Vec}
 use Rattle.std.proofs.lemmas.List.{append_assoc, length-append, length-map}
-use Rattle.walrus_locations.specs.walrus_collections.walrus_tree.walrus_walks.walrus_types.walrus_forms.Renaming.{at}
+use Rattle.walrus_collections.specs.walrus_tree.walrus_walks.walrus_types.walrus_forms.Renaming.{at}
 use Rattle.walrus_types_into.specs.wasm_module_rules.wasm_modules.wasm_body_grammar.wasm_grammar.Modules.{Module, Function as GrammarFunction}
 use Rattle.walrus_types_into.specs.wasm_module_rules.wasm_modules.wasm_body_grammar.wasm_grammar.States.{State}
 use Rattle.walrus_types_into.specs.wasm_module_rules.wasm_modules.wasm_body_grammar.Codes.{Code, coded, own_type, param_count, type_if_own}

@@ -1,7 +1,7 @@
 -- Lemmas: bodies given in turn to the functions that have none.
 use Rattle.std.proofs.Common.{◌≡◌, ◌∙◌, ◌<◌, ◌⊎◌, ℕ, zero, suc, ◌+◌, Bool, true, false, List, [], ◌∷◌, ◌++◌, length, drop, slice_get, slice_index_or, Option, Some, None, if◌then◌else◌, refl, sym, ap, subst, arith, add-one, inl, inr}
 use Rattle.std.proofs.lemmas.List.{append-nil, append_assoc, drop_all, length-append}
-use Rattle.walrus_locations.specs.walrus_collections.walrus_module_items.declared.function.Function.{Function}
+use Rattle.walrus_collections.specs.walrus_module_items.declared.function.Function.{Function}
 use Rattle.walrus_types_into.specs.walrus_known_sections.declared.items.Chunk.{Chunk}
 use Rattle.walrus_functions_into.specs.declared.bodies.FunctionBody.{FunctionBody}
 use Rattle.walrus_functions_into.specs.Bodies.{bodiless_from, paired, wants_body}

@@ -3,8 +3,8 @@ use Rattle.std.proofs.Common.{◌≡◌, ◌<◌, ℕ, zero, suc, List, [], ◌�
 use Rattle.std.proofs.lemmas.List.Elements.{All-nil, All-cons}
 use Rattle.std.proofs.lemmas.Option.{slice_get_within}
 use Rattle.wasm_features.specs.declared.WasmFeatures.{WasmFeatures}
-use Rattle.walrus_locations.specs.walrus_collections.walrus_tree.walrus_walks.walrus_types.walrus_forms.Records.{TypeGroup}
-use Rattle.walrus_locations.specs.walrus_collections.walrus_tree.walrus_walks.walrus_types.walrus_forms.Renaming.{at}
+use Rattle.walrus_collections.specs.walrus_tree.walrus_walks.walrus_types.walrus_forms.Records.{TypeGroup}
+use Rattle.walrus_collections.specs.walrus_tree.walrus_walks.walrus_types.walrus_forms.Renaming.{at}
 use Rattle.walrus_types_into.specs.wasm_module_rules.wasm_modules.wasm_body_grammar.wasm_grammar.Modules.{Imported, Own, Import, Module, Function as GrammarFunction}
 use Rattle.walrus_types_into.specs.wasm_module_rules.wasm_modules.wasm_body_grammar.wasm_grammar.States.{State, form_test}
 use Rattle.walrus_types_into.specs.walrus_known_sections.wasm_sections.TypeSection.{GroupEntry, add_group}
@@ -13,11 +13,11 @@ use Rattle.walrus_types_into.specs.wasm_module_rules.Linked.{Each, IsFunctionTyp
 use Rattle.walrus_types_into.specs.wasm_module_rules.Keeps.{each_push, each_later, typed_later, types_more}
 use Rattle.walrus_types_into.specs.wasm_module_rules.Reading.{kind_number, entity_kind}
 use Rattle.walrus_types_into.specs.wasm_ruled_modules.Keeping.{EntriesKeep, file_kept}
-use Rattle.walrus_locations.specs.walrus_collections.walrus_tree.walrus_walks.walrus_types.Table.{Table, IsFunctionType}
+use Rattle.walrus_collections.specs.walrus_tree.walrus_walks.walrus_types.Table.{Table, IsFunctionType}
 use Rattle.walrus_types_into.specs.Into.{TypesStand}
 use Rattle.walrus_types_into.specs.Functions.{function_stands}
-use Rattle.walrus_locations.specs.walrus_collections.walrus_module_items.declared.function.Function.{Function}
-use Rattle.walrus_locations.specs.walrus_collections.walrus_module_items.Functions.{type_of}
+use Rattle.walrus_collections.specs.walrus_module_items.declared.function.Function.{Function}
+use Rattle.walrus_collections.specs.walrus_module_items.Functions.{type_of}
 use Rattle.walrus_types_into.specs.walrus_known_sections.declared.items.Function.{Function as ReadFunction}
 use Rattle.walrus_types_into.specs.walrus_known_sections.Items.{function_of}
 use Rattle.walrus_types_into.specs.walrus_known_sections.Types.{kinds_in}

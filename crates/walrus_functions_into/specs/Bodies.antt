@@ -1,9 +1,9 @@
 -- The order of bodies: the functions that have none get them in turn.
 use Rattle.std.specs.Prelude.{ℕ, suc, Bool, true, false, List, [], ◌∷◌, Option, Some, None, if◌then◌else◌}
 use Rattle.walrus_arena.specs.Arena.{Arena}
-use Rattle.walrus_locations.specs.walrus_collections.walrus_module_items.declared.function.Function.{Function}
-use Rattle.walrus_locations.specs.walrus_collections.walrus_module_items.declared.function.FunctionKind.{FunctionKind}
-use Rattle.walrus_locations.specs.walrus_collections.walrus_module_items.declared.function.FunctionKind.TheVariants.{Import, Local, Uninitialized}
+use Rattle.walrus_collections.specs.walrus_module_items.declared.function.Function.{Function}
+use Rattle.walrus_collections.specs.walrus_module_items.declared.function.FunctionKind.{FunctionKind}
+use Rattle.walrus_collections.specs.walrus_module_items.declared.function.FunctionKind.TheVariants.{Import, Local, Uninitialized}
 use Rattle.walrus_types_into.specs.walrus_known_sections.declared.items.Chunk.{Chunk}
 use Rattle.walrus_functions_into.specs.declared.bodies.FunctionBody.{FunctionBody}
 

@@ -2,11 +2,11 @@
 use Rattle.std.specs.Prelude.{ℕ, suc, ◌<◌, ◌≤◌, ◌≡◌, List, [], ◌∷◌, ◌++◌, length, All, Option, Some, None}
 use Rattle.std.specs.List.{range_with_len}
 use Rattle.walrus_arena.specs.Arena.{Arena, next_id}
-use Rattle.walrus_locations.specs.walrus_collections.walrus_tree.walrus_walks.walrus_types.walrus_forms.Renaming.{at}
+use Rattle.walrus_collections.specs.walrus_tree.walrus_walks.walrus_types.walrus_forms.Renaming.{at}
 use Rattle.walrus_index_maps.specs.Maps.{Ids}
-use Rattle.walrus_locations.specs.walrus_collections.walrus_module_items.declared.function.Function.{Function}
-use Rattle.walrus_locations.specs.walrus_collections.walrus_module_items.declared.function.FunctionKind.{FunctionKind}
-use Rattle.walrus_locations.specs.walrus_collections.walrus_module_items.declared.function.FunctionKind.TheVariants.{Import, Uninitialized}
+use Rattle.walrus_collections.specs.walrus_module_items.declared.function.Function.{Function}
+use Rattle.walrus_collections.specs.walrus_module_items.declared.function.FunctionKind.{FunctionKind}
+use Rattle.walrus_collections.specs.walrus_module_items.declared.function.FunctionKind.TheVariants.{Import, Uninitialized}
 use Rattle.walrus_types_into.specs.walrus_known_sections.declared.items.Function.{Function as ReadFunction}
 
 -- of this type, and brought by this import; where none brings it, it has no body yet

@@ -2,15 +2,15 @@
 use Rattle.std.specs.Prelude.{ℕ, ◌≡◌, List, [], map, Option, Some, None}
 use Rattle.std.specs.Global.{Vec}
 use Rattle.wasm_features.specs.declared.WasmFeatures.{WasmFeatures}
-use Rattle.walrus_locations.specs.walrus_collections.walrus_tree.walrus_walks.walrus_types.walrus_forms.Renaming.{at}
+use Rattle.walrus_collections.specs.walrus_tree.walrus_walks.walrus_types.walrus_forms.Renaming.{at}
 use Rattle.walrus_types_into.specs.wasm_module_rules.wasm_modules.wasm_body_grammar.Codes.{Code, param_count}
 use Rattle.walrus_types_into.specs.walrus_known_sections.wasm_sections.Laws.{ReadsSections}
 use Rattle.walrus_types_into.specs.wasm_module_rules.wasm_modules.Modules.{codes}
 use Rattle.walrus_types_into.specs.wasm_module_rules.Linked.{Each}
-use Rattle.walrus_locations.specs.walrus_collections.walrus_tree.walrus_walks.walrus_types.Table.{Table, IsFunctionType}
+use Rattle.walrus_collections.specs.walrus_tree.walrus_walks.walrus_types.Table.{Table, IsFunctionType}
 use Rattle.walrus_types_into.specs.Into.{TypesStand}
-use Rattle.walrus_locations.specs.walrus_collections.walrus_module_items.declared.function.Function.{Function}
-use Rattle.walrus_locations.specs.walrus_collections.walrus_module_items.Functions.{type_of}
+use Rattle.walrus_collections.specs.walrus_module_items.declared.function.Function.{Function}
+use Rattle.walrus_collections.specs.walrus_module_items.Functions.{type_of}
 use Rattle.walrus_types_into.specs.walrus_known_sections.declared.items.Chunk.{Chunk}
 use Rattle.walrus_types_into.specs.walrus_known_sections.declared.items.Function.{Function as ReadFunction}
 use Rattle.walrus_types_into.specs.walrus_known_sections.declared.sections.Sections.{Sections}

@@ -6,8 +6,8 @@ ghost use Rattle.walrus_functions_into.specs.Bodies.{bodiless, is_bodiless, pair
 
 use std::alloc::{AllocError, Global};
 use walrus_arena::FunctionId;
-use walrus_locations::collections::ModuleFunctions;
-use walrus_locations::module_items::FunctionKind;
+use walrus_collections::ModuleFunctions;
+use walrus_collections::module_items::FunctionKind;
 use walrus_types_into::known_sections::Chunk;
 
 /// The bytes of a body with their place, and the function that it is of.

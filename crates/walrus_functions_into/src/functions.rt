@@ -2,17 +2,17 @@
 
 ghost use Rattle.std.specs.Prelude.{◌≡◌, ◌<◌, ◌≤◌, ◌+◌, [], ◌∷◌, ◌++◌, length, None, Some, IsOk, IfOk, IfSome, OnOk, OnErr};
 ghost use Rattle.walrus_arena.specs.Arena.{IsLive, item_at, next_id, with_item};
-ghost use Rattle.walrus_locations.specs.walrus_collections.walrus_tree.walrus_walks.walrus_types.walrus_forms.Renaming.{at};
+ghost use Rattle.walrus_collections.specs.walrus_tree.walrus_walks.walrus_types.walrus_forms.Renaming.{at};
 ghost use Rattle.walrus_index_maps.specs.Views.{ids};
-ghost use Rattle.walrus_locations.specs.walrus_collections.walrus_module_items.declared.function.FunctionKind.TheVariants as kinds;
+ghost use Rattle.walrus_collections.specs.walrus_module_items.declared.function.FunctionKind.TheVariants as kinds;
 ghost use Rattle.walrus_functions_into.specs.Functions.{AddsFunctions, AreTyped, NumbersSome, function_as, functions_from, with_functions};
 
 use std::alloc::AllocError;
 use walrus_arena::{FunctionId, ImportId, TypeId};
+use walrus_collections::ModuleFunctions;
+use walrus_collections::local_function::LocalFunction;
+use walrus_collections::module_items::FunctionKind;
 use walrus_index_maps::IndicesToIds;
-use walrus_locations::collections::ModuleFunctions;
-use walrus_locations::local_function::LocalFunction;
-use walrus_locations::module_items::FunctionKind;
 use walrus_types_into::known_sections::Function;
 
 // Lets a live function be of this kind.

@@ -10,22 +10,18 @@ pub use functions::{add_bodiless, add_functions, give_body};
 
 // Passed on to crates above, which then list this one alone.
 pub mod collections {
-    pub use walrus_locations::collections::{
+    pub use walrus_collections::{
         ModuleData, ModuleElements, ModuleExports, ModuleFunctions, ModuleGlobals, ModuleImports,
         ModuleMemories, ModuleTables, ModuleTags,
     };
 }
 
 pub mod local_function {
-    pub use walrus_locations::local_function::LocalFunction;
-}
-
-pub mod locations {
-    pub use walrus_locations::send_locations;
+    pub use walrus_collections::local_function::LocalFunction;
 }
 
 pub mod module_items {
-    pub use walrus_locations::module_items::FunctionKind;
+    pub use walrus_collections::module_items::FunctionKind;
 }
 
 pub mod types_into {

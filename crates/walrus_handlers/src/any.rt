@@ -5,9 +5,9 @@ ghost use Rattle.walrus_handler_laws.specs.walrus_tree.walrus_walks.walrus_forms
 ghost use Rattle.walrus_handler_laws.specs.walrus_tree.walrus_walks.walrus_instr.declared.seq.InstrSeqType.TheVariants.{Simple};
 
 use walrus_arena::{LocalId, MemoryId, TagId, TypeId};
-use walrus_handler_laws::body_steps::body_env::BodyEnv;
-use walrus_handler_laws::tree::builder::tree_walks::instr::InstrSeqType;
-use walrus_handler_laws::tree::builder::tree_walks::instr::type_table::ValType;
+use walrus_body_env::BodyEnv;
+use walrus_instr::InstrSeqType;
+use walrus_instr::type_table::ValType;
 
 /// An environment of bodies that answers as another one does, but has a type for each handler of a legacy `try`, whatever it is: a body is
 /// never refused for want of one. Once it was read, its handlers are to be given their types.

@@ -13,13 +13,11 @@ use std::alloc::{AllocError, Global};
 use walrus_arena::{
     DataId, ElementId, FunctionId, GlobalId, InstrSeqId, LocalId, MemoryId, TableId, TagId, TypeId,
 };
-use walrus_handler_laws::body_steps::body_env::BodyEnv;
-use walrus_handler_laws::tree::builder::tree_walks::Visitor;
-use walrus_handler_laws::tree::builder::tree_walks::instr::{
-    Instr, InstrLocId, InstrSeq, InstrSeqType, LegacyCatch, Value,
-};
-use walrus_handler_laws::tree::builder::{FunctionBuilder, dfs_in_order};
+use walrus_body_env::BodyEnv;
 use walrus_handler_laws::{Handler, tree};
+use walrus_instr::{Instr, InstrLocId, InstrSeq, InstrSeqType, LegacyCatch, Value};
+use walrus_tree::builder::tree_walks::Visitor;
+use walrus_tree::builder::{FunctionBuilder, dfs_in_order};
 
 // The type of a sequence, if there is one of that id.
 fn type_at(seqs: &[InstrSeq], id: InstrSeqId) -> Option<InstrSeqType>

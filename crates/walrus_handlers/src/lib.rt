@@ -10,19 +10,17 @@ pub use walrus_handler_laws::{Handler, laws};
 
 // Passed on to crates above, which then list this one alone.
 pub mod tree {
-    pub use walrus_handler_laws::tree::check_tree;
+    pub use walrus_tree::check_tree;
 
     pub mod builder {
-        pub use walrus_handler_laws::tree::builder::FunctionBuilder;
+        pub use walrus_tree::builder::FunctionBuilder;
 
         pub mod tree_walks {
             pub mod instr {
-                pub use walrus_handler_laws::tree::builder::tree_walks::instr::InstrSeqType;
+                pub use walrus_instr::InstrSeqType;
 
                 pub mod type_table {
-                    pub use walrus_handler_laws::tree::builder::tree_walks::instr::type_table::{
-                        ModuleTypes, ValType,
-                    };
+                    pub use walrus_instr::type_table::{ModuleTypes, ValType};
                 }
             }
         }

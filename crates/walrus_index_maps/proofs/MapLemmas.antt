@@ -6,7 +6,7 @@ use Rattle.std.specs.declared.cmp.Ordering.{Ordering}
 use Rattle.std.specs.declared.cmp.Ordering.TheVariants.{Less, Equal, Greater}
 use Rattle.std.specs.Ordering.{is_eq, nat_cmp, ordering_then}
 use Rattle.std.specs.Cmp.{nat_cmp_is}
-use Rattle.walrus_index_maps.specs.Maps.{Numbering, numbered, with_last, with_local}
+use Rattle.walrus_index_maps.specs.Maps.{Numbering, numbered, with_first, with_last, with_local}
 use Rattle.walrus_index_maps.specs.Views.{items_at, key_cmp}
 
 no_numbers : {A : Type 0} (nothing : Option A) (n i : ℕ) → nothing ≡ None → get_or (replicate n nothing) i None ≡ None
@@ -96,6 +96,31 @@ same_list vs at v l e = agree _ _ (λ f. each f)
     each f = elim (cases_Bool (f == at)) [
       | inl same ↦ rw (eqb-true f at same) (here vs at v l ∙ e)
       | inr other ↦ elsewhere vs at v f (eqb-false f at other)
+    ]
+
+-- one list was cut back
+pub cut_list : (vs : List (List ℕ)) (at n : ℕ) (v : List ℕ) → at < length vs → v ≡ take n (items_at vs at) → items_at (set vs at v) ≡ with_first at n (items_at vs)
+cut_list vs at n v l e = agree _ _ (λ f. each f)
+  where
+    each : (f : ℕ) → items_at (set vs at v) f ≡ with_first at n (items_at vs) f
+    each f = elim (cases_Bool (f == at)) [
+      | inl same ↦ rw (same, eqb-true f at same) (here vs at v l ∙ e)
+      | inr other ↦ rw other (elsewhere vs at v f (eqb-false f at other))
+    ]
+
+-- where there is no list, nothing is cut
+pub no_cut : (vs : List (List ℕ)) (at n : ℕ) → length vs ≤ at → items_at vs ≡ with_first at n (items_at vs)
+no_cut vs at n l = agree _ _ (λ f. each f)
+  where
+    nothing : (k : ℕ) (l : List ℕ) → l ≡ [] → l ≡ take k l
+    nothing zero l e = e
+    nothing (suc k) [] e = refl
+    nothing (suc k) (x ∷ l) e = absurd (let q = e in cc)
+
+    each : (f : ℕ) → items_at vs f ≡ with_first at n (items_at vs) f
+    each f = elim (cases_Bool (f == at)) [
+      | inl same ↦ rw same (nothing n (items_at vs f) (no_list vs f (rw (eqb-true f at same) l)))
+      | inr other ↦ rw other refl
     ]
 
 -- ---- keys

@@ -1,5 +1,5 @@
 -- Lists that begin with numbers that follow each other.
-use Rattle.std.proofs.Common.{◌≡◌, ◌∙◌, ◌+◌, ◌-◌, ◌<◌, ◌≤◌, ℕ, zero, suc, List, [], ◌∷◌, ◌++◌, length, slice_get, Some, refl, ap, sym, arith, append-nil}
+use Rattle.std.proofs.Common.{◌≡◌, ◌∙◌, ◌+◌, ◌-◌, ◌<◌, ◌≤◌, ℕ, zero, suc, List, [], ◌∷◌, ◌++◌, length, take, slice_get, Some, refl, ap, sym, arith, append-nil}
 use Rattle.walrus_index_maps.specs.Runs.{run_from}
 
 pub run_length : (first n : ℕ) (xs : List ℕ) → length (run_from first n ++ xs) ≡ n + length xs
@@ -31,3 +31,15 @@ run_pushed first n id (x ∷ xs) l e = absurd (omega (arith, l))
 pub rest_pushed : (first n id : ℕ) (xs : List ℕ) → run_from first n ++ (xs ++ id ∷ []) ≡ (run_from first n ++ xs) ++ id ∷ []
 rest_pushed first zero id xs = refl
 rest_pushed first (suc n) id xs = ap (λ (l : List ℕ). first ∷ l) (rest_pushed (suc first) n id xs)
+
+-- cut back within it, or behind it
+pub run_cut : (first n count : ℕ) (xs : List ℕ) → count ≤ n → run_from first count ≡ take count (run_from first n ++ xs)
+run_cut first n zero xs l = refl
+run_cut first zero (suc count) xs l = absurd (omega (arith, l))
+run_cut first (suc n) (suc count) xs l = ap (λ (k : List ℕ). first ∷ k) (run_cut (suc first) n count xs (omega (arith, l)))
+
+pub rest_cut : (first n count : ℕ) (xs : List ℕ) → n ≤ count → run_from first n ++ take (count - n) xs ≡ take count (run_from first n ++ xs)
+rest_cut first zero count xs l = ap (λ (k : ℕ). take k xs) (omega arith)
+rest_cut first (suc n) zero xs l = absurd (omega (arith, l))
+rest_cut first (suc n) (suc count) xs l =
+    ap (λ (k : ℕ). first ∷ (run_from (suc first) n ++ take k xs)) (omega arith) ∙ ap (λ (k : List ℕ). first ∷ k) (rest_cut (suc first) n count xs (omega (arith, l)))

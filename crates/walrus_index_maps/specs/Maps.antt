@@ -1,5 +1,5 @@
 -- Finite maps between indices and ids, as contracts see them.
-use Rattle.std.specs.Prelude.{ℕ, ◌+◌, ◌==◌, ◌&&◌, List, [], ◌∷◌, ◌++◌, Option, Some, None, if◌then◌else◌}
+use Rattle.std.specs.Prelude.{ℕ, ◌+◌, ◌==◌, ◌&&◌, List, [], ◌∷◌, ◌++◌, take, Option, Some, None, if◌then◌else◌}
 
 -- ---- from indices to ids: of each space the ids in the order of their indices; of locals, for each function
 
@@ -20,6 +20,10 @@ no_ids = record { types = []; functions = []; tables = []; memories = []; tags =
 -- the same lists, but one longer by an id
 abbrev pub with_last : ℕ → ℕ → (ℕ → List ℕ) → ℕ → List ℕ
 with_last function id locals f = if f == function then locals f ++ id ∷ [] else locals f
+
+-- the same lists, but one has no more than its first ones
+abbrev pub with_first : ℕ → ℕ → (ℕ → List ℕ) → ℕ → List ℕ
+with_first function n locals f = if f == function then take n (locals f) else locals f
 
 -- ---- from ids to indices
 

@@ -1,5 +1,5 @@
 //! Ids by index, most of which follow each other.
-ghost use Rattle.std.specs.Prelude.{◌≡◌, [], ◌∷◌, ◌++◌, length, slice_get, MatchResult};
+ghost use Rattle.std.specs.Prelude.{◌≡◌, [], ◌∷◌, ◌++◌, length, take, slice_get, MatchResult};
 
 use std::alloc::{AllocError, Global};
 use std::marker::Model;
@@ -82,5 +82,26 @@ impl<S> IdList<S> {
             return Some(Id::from_index((self.first + index) as usize));
         }
         id_in(self.rest.as_slice(), (index - self.run) as usize)
+    }
+
+    /// How many ids it has.
+    #[tactic(auto, using(crate::proofs::RunLemmas::run_length))]
+    pub(crate) fn len(&self) -> usize
+        ensures { result ≡ length self.now }
+    {
+        self.run as usize + self.rest.len()
+    }
+
+    /// Drops the ids behind the first so many.
+    pub(crate) fn truncate(&mut self, count: usize)
+        ensures { self.new ≡ take count self.old }
+    {
+        let run = self.run as usize;
+        if count < run {
+            self.run = count as u32;
+            self.rest.truncate(0);
+        } else {
+            self.rest.truncate(count - run);
+        }
     }
 }

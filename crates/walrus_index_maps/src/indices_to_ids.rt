@@ -1,7 +1,7 @@
 //! What each index of a file names.
 ghost use Rattle.std.specs.Prelude.{◌≡◌, ◌<◌, ◌^◌, [], ◌∷◌, ◌++◌, length, slice_get, slice_set, IfOk, OnOk, OnErr, MatchResult};
 ghost use Rattle.std.specs.Option.{ok_or};
-ghost use Rattle.walrus_index_maps.specs.Maps.{no_ids, with_last};
+ghost use Rattle.walrus_index_maps.specs.Maps.{no_ids, with_first, with_last};
 ghost use Rattle.walrus_index_maps.specs.Views.{ids};
 ghost use Rattle.walrus_index_maps.specs.declared.space.Space.TheVariants as spaces;
 
@@ -287,6 +287,26 @@ impl IndicesToIds {
         match self.locals.get(function.index()) {
             Some(locals) => locals.get(index).ok_or(UnknownIndex(Space::Local)),
             None => Err(UnknownIndex(Space::Local)),
+        }
+    }
+
+    /// How many locals the indices of a function name.
+    pub fn local_count(&self, function: FunctionId) -> usize
+        ensures { result ≡ length ((ids self.now).locals function) }
+    {
+        match self.locals.get(function.index()) {
+            Some(locals) => locals.len(),
+            None => 0,
+        }
+    }
+
+    /// The first so many indices of locals name what they named in the function, and no other names anything. Takes no memory.
+    pub fn keep_locals(&mut self, function: FunctionId, count: usize)
+        ensures { ids self.new ≡ record (ids self.old) { locals = with_first function count (ids self.old).locals } }
+    {
+        let at = function.number() as usize;
+        if at < self.locals.len() {
+            self.locals[at].truncate(count);
         }
     }
 }

@@ -1,7 +1,7 @@
 //! Laws of what was read of a file and put into a module: it fills the collections, and means what was read, renamed.
 #![tactic(auto)]
 
-ghost use Rattle.walrus_parse.specs.walrus_file_bodies.walrus_items_into.walrus_tables_into.walrus_meaning.walrus_local_function.walrus_body_locals.wasm_grammar.Modules.{Custom};
+ghost use Rattle.walrus_parse.specs.walrus_file_bodies.walrus_items_into.walrus_module_bodies.walrus_body_trees.walrus_meaning.walrus_local_function.walrus_body_locals.wasm_grammar.Modules.{Custom};
 ghost use Rattle.walrus_into_laws.specs.Functions.{FunctionsFill};
 ghost use Rattle.walrus_into_laws.specs.Meaning.{ImportsMean, FunctionsMean, TablesMean, MemoriesMean, TagsMean, GlobalsMean, ExportsMean, StartMeans, ElementsMean, SegmentsMean, CustomsMean, ModuleMeans, OrderedStay};
 
@@ -118,10 +118,6 @@ pub mod module_env {
             blocks_are_named, picks_are_seen,
         };
     }
-}
-
-pub mod parse {
-    pub use walrus_parse::{FromBuffer, Parse, parse_into};
 }
 
 pub mod types_into {

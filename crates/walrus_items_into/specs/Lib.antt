@@ -3,7 +3,6 @@ pub mod Numbers
 pub mod Filled
 pub mod Laws
 -- Passed on to crates above, which then list this one alone.
-pub use Rattle.walrus_module_bodies.specs.walrus_locations as walrus_locations
 pub use Rattle.walrus_read_laws.specs.wasm_spelled_modules as wasm_spelled_modules
 pub use Rattle.walrus_module_bodies.specs as walrus_module_bodies
 pub use Rattle.walrus_module_bodies.specs.walrus_functions_into as walrus_functions_into

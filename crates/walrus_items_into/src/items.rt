@@ -12,6 +12,8 @@ ghost use Rattle.walrus_items_into.specs.Spaces.{spaces};
 use crate::numbers::number_items;
 use std::alloc::Global;
 use walrus_arena::FunctionId;
+use walrus_index_maps::IndicesToIds;
+use walrus_known_sections::Sections;
 use walrus_module_bodies::collections::{
     ModuleData, ModuleElements, ModuleExports, ModuleFunctions, ModuleGlobals, ModuleImports,
     ModuleMemories, ModuleTables, ModuleTags,
@@ -22,13 +24,11 @@ use walrus_module_bodies::types::ModuleTypes;
 use walrus_module_bodies::types_into::laws::{new_types_stand, types_name_below};
 use walrus_module_bodies::types_into::read_types_into;
 use walrus_read_laws::read_sections_lack_nothing;
-use walrus_read_laws::tables_into::sections::Sections as CustomSections;
-use walrus_read_laws::tables_into::sections_into::index_maps::IndicesToIds;
-use walrus_read_laws::tables_into::sections_into::known_sections::Sections;
-use walrus_read_laws::tables_into::sections_into::{
+use walrus_sections::Sections as CustomSections;
+use walrus_tables_into::sections_into::{
     IntoError, add_exports, add_imports, add_memories, add_segments, add_tags, read_start,
 };
-use walrus_read_laws::tables_into::{add_customs, add_elements, add_globals, add_tables};
+use walrus_tables_into::{add_customs, add_elements, add_globals, add_tables};
 
 // What was read lacks nothing that its own map names: a law, which runs nothing.
 fn lacks_nothing(_sections: &Sections<'_>, _maps: &IndicesToIds)

@@ -5,9 +5,9 @@ ghost use Rattle.walrus_read_laws.specs.walrus_tables_into.walrus_sections_into.
 ghost use Rattle.walrus_items_into.specs.Numbers.{with_items};
 
 use std::alloc::AllocError;
-use walrus_read_laws::tables_into::sections_into::index_maps::IndicesToIds;
-use walrus_read_laws::tables_into::sections_into::known_sections::Sections;
-use walrus_read_laws::tables_into::sections_into::{
+use walrus_index_maps::IndicesToIds;
+use walrus_known_sections::Sections;
+use walrus_tables_into::sections_into::{
     number_elements, number_globals, number_memories, number_segments, number_tables, number_tags,
 };
 

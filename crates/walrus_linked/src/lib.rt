@@ -22,21 +22,3 @@ pub fn imports_keep_linked()
 pub fn own_ids_are_kept<T>()
     ensures { (id_of : T → ℕ) → OwnIdsAreKept id_of }
 {}
-
-// Passed on to crates above, which then list this one alone.
-pub mod collections {
-    pub use walrus_module::collections::{
-        Collection, ModuleData, ModuleElements, ModuleExports, ModuleFunctions, ModuleGlobals,
-        ModuleImports, ModuleMemories, ModuleTables, ModuleTags,
-    };
-}
-
-pub mod module {
-    pub use walrus_module::Module;
-
-    pub mod module_items {
-        pub use walrus_module::module_items::{
-            DataKind, ElementItems, ElementKind, ExportItem, GlobalKind, ImportKind,
-        };
-    }
-}

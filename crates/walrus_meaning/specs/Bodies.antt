@@ -23,7 +23,7 @@ use Rattle.walrus_pairing.specs.Write.{seen_of}
 use Rattle.wasm_normal_form.specs.Locals.{Key, in_order, numbered}
 use Rattle.wasm_normal_form.specs.Bodies.{local_in}
 use Rattle.wasm_grammar.specs.Modules.{Placed, Body}
-use Rattle.walrus_meaning.specs.Words.{own_heap, own_block, plain_seen}
+use Rattle.walrus_linked.specs.walrus_module_items.Words.{own_heap, own_block, plain_seen}
 
 -- how many sequences lie between a label and here (Core Specification, labels)
 abbrev pub depth_of : List ℕ → ℕ → ℕ

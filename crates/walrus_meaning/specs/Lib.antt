@@ -2,7 +2,7 @@ pub mod Bodies
 pub mod Laws
 pub mod Meaning
 pub mod Segments
-pub mod Words
+pub use Rattle.walrus_linked.specs.walrus_module_items.Words
 pub mod Told
 pub mod NamesTold
 -- Passed on to crates above, which then list this one alone.

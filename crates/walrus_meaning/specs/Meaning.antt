@@ -19,7 +19,6 @@ use Rattle.walrus_linked.specs.walrus_module_items.declared.function.Function.{F
 use Rattle.walrus_linked.specs.walrus_module_items.declared.function.FunctionKind.{FunctionKind}
 use Rattle.walrus_linked.specs.walrus_module_items.declared.function.FunctionKind.TheVariants as functions
 use Rattle.walrus_linked.specs.walrus_module_items.declared.table.Table.{Table}
-use Rattle.walrus_linked.specs.walrus_module_items.declared.memory.Memory.{Memory}
 use Rattle.walrus_linked.specs.walrus_module_items.declared.global.Global.{Global}
 use Rattle.walrus_linked.specs.walrus_module_items.declared.global.GlobalKind.{GlobalKind}
 use Rattle.walrus_linked.specs.walrus_module_items.declared.global.GlobalKind.TheVariants as globals
@@ -37,7 +36,8 @@ use Rattle.wasm_formats.specs.declared.fault.Space.TheVariants as spaces
 use Rattle.wasm_grammar.specs.Modules as grammar
 use Rattle.walrus_linked.specs.walrus_module.Parts.{Module}
 use Rattle.walrus_linked.specs.Linked.{tag_import}
-use Rattle.walrus_meaning.specs.Words.{own_expr}
+pub use Rattle.walrus_linked.specs.walrus_module_items.Words.{own_memory}
+use Rattle.walrus_linked.specs.walrus_module_items.Words.{own_expr}
 use Rattle.walrus_meaning.specs.Bodies.{own_body}
 
 -- the slots of a collection, each item as it is seen
@@ -105,9 +105,6 @@ own_function locals f = record { ty = type_of f.kind; origin = own_origin locals
 
 abbrev pub own_table : Table → grammar.Table
 own_table t = record { wide = t.table64; initial = t.initial; maximum = t.maximum; element = t.element_ty; init = option_map own_expr t.init; imported = t.import }
-
-abbrev pub own_memory : Memory → grammar.Memory
-own_memory m = record { shared = m.shared; wide = m.memory64; initial = m.initial; maximum = m.maximum; page_size_log2 = m.page_size_log2; imported = m.import }
 
 abbrev pub own_value_of : GlobalKind → grammar.Origin grammar.Expr
 own_value_of (globals.Import import) = grammar.Imported import

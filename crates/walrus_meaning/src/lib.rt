@@ -30,21 +30,4 @@ pub fn names_are_told()
 // Passed on to crates above, which then list this one alone.
 pub mod linked {
     pub use walrus_linked::{empty_is_linked, imports_keep_linked, own_ids_are_kept};
-
-    pub mod collections {
-        pub use walrus_linked::collections::{
-            ModuleData, ModuleElements, ModuleExports, ModuleGlobals, ModuleImports,
-            ModuleMemories, ModuleTables, ModuleTags,
-        };
-    }
-}
-
-pub mod module {
-    pub use walrus_linked::module::Module;
-
-    pub mod module_items {
-        pub use walrus_linked::module::module_items::{
-            DataKind, ElementItems, ElementKind, ExportItem, GlobalKind, ImportKind,
-        };
-    }
 }

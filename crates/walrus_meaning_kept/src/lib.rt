@@ -12,14 +12,6 @@ pub mod meaning {
     pub use walrus_meaning_refs::meaning::{adds_are_seen, empty_means_empty, items_are_seen};
 }
 
-pub mod module {
-    pub use walrus_meaning_refs::module::Module;
-}
-
-pub mod passes {
-    pub use walrus_passes_laws::passes::{Used, gc};
-}
-
 pub mod passes_laws {
     pub use walrus_passes_laws::{gc_keeps_linked, linked_are_served, second_gc_deletes_nothing};
 }

@@ -12,10 +12,6 @@ pub mod meaning {
     pub use walrus_meaning::{adds_are_seen, empty_means_empty, items_are_seen};
 }
 
-pub mod module {
-    pub use walrus_meaning::module::Module;
-}
-
 pub mod references {
     pub use walrus_references::kept_is_least;
 }

@@ -1,4 +1,5 @@
 pub mod Items
+pub mod Linking
 pub mod Parts
 pub mod Replaced
 -- Passed on to crates above, which then list this one alone.

@@ -15,10 +15,6 @@ pub use body::read_function;
 pub use file::FileEnv;
 
 // Passed on to crates above, which then list this one alone.
-pub mod body_env {
-    pub use walrus_module_env::body_env::BodyError;
-}
-
 pub mod body_trees {
     pub mod laws {
         pub use walrus_body_trees::laws::{bodies_are_trees, bodies_mean_their_normal_form};
@@ -42,26 +38,10 @@ pub mod functions_into {
     }
 }
 
-pub mod instr {
-    pub use walrus_module_env::body_env::instr::InstrLocId;
-}
-
-pub mod items {
-    pub use walrus_module_env::body_env::instr::type_table::ModuleLocals;
-}
-
-pub mod locations {
-    pub use walrus_module_env::locations::send_locations;
-}
-
 pub mod module_env {
     pub mod laws {
         pub use walrus_module_env::laws::{blocks_are_named, picks_are_seen, read_types_are_filed};
     }
-}
-
-pub mod module_items {
-    pub use walrus_module_env::module_items::FunctionKind;
 }
 
 pub mod types {

@@ -5,7 +5,6 @@ pub mod Parsed
 pub mod First
 pub mod Handled
 -- Passed on to crates above, which then list this one alone.
-pub use Rattle.walrus_functions_into.specs.walrus_locations as walrus_locations
 pub use Rattle.walrus_functions_into.specs as walrus_functions_into
 pub use Rattle.walrus_functions_into.specs.walrus_collections.walrus_body_parser as walrus_body_parser
 pub use Rattle.walrus_functions_into.specs.walrus_collections as walrus_collections

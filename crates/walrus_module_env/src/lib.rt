@@ -10,10 +10,10 @@ pub use env::ModuleEnv;
 
 // Passed on to crates above, which then list this one alone.
 pub mod body_env {
-    pub use walrus_body_env::{AcceptAll, BodyEnv, BodyError};
+    pub use walrus_body_env::{BodyEnv, BodyError};
 
     pub mod instr {
-        pub use walrus_body_env::instr::{InstrLocId, InstrSeqType};
+        pub use walrus_body_env::instr::InstrSeqType;
 
         pub mod type_table {
             pub use walrus_body_env::instr::type_table::{ModuleLocals, ModuleTypes, ValType};
@@ -45,15 +45,7 @@ pub mod handler_types {
 }
 
 pub mod handlers {
-    pub use walrus_handler_types::{AnyHandler, handlers, handlers_if};
-}
-
-pub mod locations {
-    pub use walrus_functions_into::locations::send_locations;
-}
-
-pub mod module_items {
-    pub use walrus_functions_into::module_items::FunctionKind;
+    pub use walrus_handler_types::{AnyHandler, handlers_if};
 }
 
 pub mod types_into {

@@ -12,7 +12,7 @@ use Rattle.walrus_file_bodies.specs.walrus_module_bodies.declared.file.FileEnv.{
 use Rattle.walrus_item_names.specs.walrus_module.walrus_module_items.declared.memory.Memory.{Memory as Mem}
 use Rattle.walrus_item_names.specs.walrus_module.walrus_module_items.declared.tag.Tag.{Tag}
 use Rattle.walrus_file_bodies.specs.Ready.{IsFileOf}
-use Rattle.walrus_named_bodies.specs.Refusals.{module_error}
+use Rattle.walrus_item_names.specs.walrus_module.walrus_body_writer.walrus_body_env.Refusals.{module_error}
 
 -- want of memory, or the first body that is none
 pub record IsFirstFault (features : WasmFeatures) (s : Sections) (tags : Arena Tag) (memories : Arena Mem) (bodies : List FunctionBody) (old : State) (error : ModuleError) : Type 0 where

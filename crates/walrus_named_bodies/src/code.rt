@@ -9,19 +9,15 @@ ghost use Rattle.walrus_file_bodies.specs.walrus_module_bodies.declared.file.Fil
 ghost use Rattle.walrus_file_bodies.specs.Ready.{AreReady, IsFileOf, bodies_in};
 ghost use Rattle.walrus_named_bodies.specs.Code.{IsCodeRefusal};
 
-use crate::refusal::module_error;
 use std::alloc::{AllocError, Global};
-use walrus_errors::Result;
-use walrus_file_bodies::functions_into::FunctionBody;
-use walrus_file_bodies::items_into::functions_into::pair_bodies;
-use walrus_file_bodies::items_into::module_env::body_env::instr::type_table::{
-    ModuleLocals, ModuleTypes,
-};
-use walrus_file_bodies::items_into::tables_into::sections_into::index_maps::IndicesToIds;
-use walrus_file_bodies::items_into::tables_into::sections_into::known_sections::{Chunk, Sections};
-use walrus_file_bodies::items_into::tables_into::sections_into::operators::immediate_forms::reader::features::WasmFeatures;
-use walrus_file_bodies::module_bodies::{FileEnv, read_bodies};
+use walrus_errors::{ModuleError, Result};
+use walrus_index_maps::IndicesToIds;
+use walrus_instr::type_table::{ModuleLocals, ModuleTypes};
 use walrus_item_names::module::collections::{ModuleFunctions, ModuleMemories, ModuleTags};
+use walrus_items_into::functions_into::{FunctionBody, pair_bodies};
+use walrus_items_into::module_bodies::{FileEnv, read_bodies};
+use walrus_known_sections::{Chunk, Sections};
+use wasm_features::WasmFeatures;
 
 // How many types live. They are held in memory, so there are never 2^64.
 fn count_types(types: &ModuleTypes) -> Result<usize, AllocError>
@@ -109,6 +105,6 @@ pub(crate) fn read_code(
         bodies.as_slice(),
     ) {
         Ok(()) => Ok(()),
-        Err(fault) => Err(module_error(fault)),
+        Err(fault) => Err(ModuleError::from(fault)),
     }
 }

@@ -5,12 +5,10 @@
 mod code;
 mod named;
 mod names;
-mod refusal;
 
 pub use code::bodies_of;
 pub use named::read_named;
 pub use names::name_items;
-pub use refusal::module_error;
 
 // Passed on to crates above, which then list this one alone.
 pub mod file_bodies {
@@ -23,7 +21,7 @@ pub mod file_bodies {
     }
 
     pub mod items_into {
-        pub use walrus_file_bodies::items_into::read_items;
+        pub use walrus_items_into::read_items;
 
         pub mod functions_into {
             pub mod laws {
@@ -49,12 +47,10 @@ pub mod file_bodies {
         pub mod module_env {
             pub mod body_env {
                 pub mod instr {
-                    pub use walrus_file_bodies::items_into::module_env::body_env::instr::InstrLocId;
+                    pub use walrus_instr::InstrLocId;
 
                     pub mod type_table {
-                        pub use walrus_file_bodies::items_into::module_env::body_env::instr::type_table::{
-                            ModuleLocals, ModuleTypes,
-                        };
+                        pub use walrus_instr::type_table::{ModuleLocals, ModuleTypes};
                     }
                 }
             }
@@ -68,23 +64,23 @@ pub mod file_bodies {
 
         pub mod tables_into {
             pub mod sections {
-                pub use walrus_file_bodies::items_into::tables_into::sections::Sections;
+                pub use walrus_sections::Sections;
             }
 
             pub mod sections_into {
                 pub mod index_maps {
-                    pub use walrus_file_bodies::items_into::tables_into::sections_into::index_maps::IndicesToIds;
+                    pub use walrus_index_maps::IndicesToIds;
                 }
 
                 pub mod known_sections {
-                    pub use walrus_file_bodies::items_into::tables_into::sections_into::known_sections::Sections;
+                    pub use walrus_known_sections::Sections;
                 }
 
                 pub mod operators {
                     pub mod immediate_forms {
                         pub mod reader {
                             pub mod features {
-                                pub use walrus_file_bodies::items_into::tables_into::sections_into::operators::immediate_forms::reader::features::WasmFeatures;
+                                pub use wasm_features::WasmFeatures;
                             }
                         }
                     }
@@ -100,12 +96,8 @@ pub mod file_bodies {
     }
 
     pub mod payloads_into {
-        pub use walrus_file_bodies::payloads_into::producers_in;
+        pub use walrus_payloads_into::producers_in;
     }
-}
-
-pub mod functions_into {
-    pub use walrus_file_bodies::functions_into::FunctionBody;
 }
 
 pub mod item_names {
@@ -126,19 +118,7 @@ pub mod local_counts {
 }
 
 pub mod locations {
-    pub use walrus_file_bodies::locations::send_locations;
-}
-
-pub mod module_bodies {
-    pub use walrus_file_bodies::module_bodies::{FileEnv, read_function};
-
-    pub mod laws {
-        pub use walrus_file_bodies::module_bodies::laws::bodies_hold_theirs;
-    }
-}
-
-pub mod module_items {
-    pub use walrus_file_bodies::module_items::FunctionKind;
+    pub use walrus_locations::send_locations;
 }
 
 pub mod spelled_modules {

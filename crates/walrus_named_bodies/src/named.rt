@@ -15,16 +15,14 @@ use crate::code::read_code;
 use crate::names::name_items;
 use std::alloc::Global;
 use walrus_errors::Result;
-use walrus_file_bodies::items_into::module_env::body_env::instr::type_table::{
-    ModuleLocals, ModuleTypes,
-};
-use walrus_file_bodies::items_into::tables_into::sections_into::index_maps::IndicesToIds;
-use walrus_file_bodies::items_into::tables_into::sections_into::known_sections::Sections;
-use walrus_file_bodies::items_into::tables_into::sections_into::operators::immediate_forms::reader::features::WasmFeatures;
+use walrus_index_maps::IndicesToIds;
+use walrus_instr::type_table::{ModuleLocals, ModuleTypes};
 use walrus_item_names::module::collections::{
     ModuleData, ModuleElements, ModuleFunctions, ModuleGlobals, ModuleMemories, ModuleTables,
     ModuleTags,
 };
+use walrus_known_sections::Sections;
+use wasm_features::WasmFeatures;
 
 /// Reads the bodies of a file whose items are in these collections, and then names what has a number: synthetic names come first, if they
 /// are wanted, and then those of the file's sections `name`. Names come behind the bodies, as these give out locals and types.

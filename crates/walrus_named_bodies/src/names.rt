@@ -12,17 +12,15 @@ ghost use Rattle.walrus_file_bodies.specs.walrus_items_into.walrus_payloads_into
 ghost use Rattle.walrus_named_bodies.specs.Named.{all_names, made_names};
 
 use std::alloc::{AllocError, Global};
-use walrus_file_bodies::items_into::module_env::body_env::instr::type_table::{
-    ModuleLocals, ModuleTypes,
-};
-use walrus_file_bodies::items_into::tables_into::sections_into::index_maps::IndicesToIds;
-use walrus_file_bodies::items_into::tables_into::sections_into::known_sections::Custom;
-use walrus_file_bodies::payloads_into::names_in;
+use walrus_index_maps::IndicesToIds;
+use walrus_instr::type_table::{ModuleLocals, ModuleTypes};
 use walrus_item_names::module::collections::{
     ModuleData, ModuleElements, ModuleFunctions, ModuleGlobals, ModuleMemories, ModuleTables,
     ModuleTags,
 };
 use walrus_item_names::{give_names, give_synthetic_names};
+use walrus_known_sections::Custom;
+use walrus_payloads_into::names_in;
 
 // Synthetic names, if they are wanted.
 fn make_names(

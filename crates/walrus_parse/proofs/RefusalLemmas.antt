@@ -11,7 +11,7 @@ use Rattle.walrus_file_reader.specs.Files.{IsRefused}
 use Rattle.walrus_named_bodies.specs.walrus_file_bodies.walrus_items_into.walrus_tables_into.walrus_section_values.walrus_section_reader.Faults.{error_at, trouble_of}
 use Rattle.walrus_named_bodies.specs.walrus_file_bodies.walrus_items_into.walrus_tables_into.walrus_section_values.walrus_section_reader.declared.fault.FaultKind.{FaultKind}
 use Rattle.walrus_named_bodies.specs.walrus_file_bodies.walrus_items_into.walrus_tables_into.walrus_section_values.walrus_section_reader.declared.fault.FaultKind.TheVariants as faults
-use Rattle.walrus_named_bodies.specs.Refusals.{module_error}
+use Rattle.walrus_named_bodies.specs.walrus_item_names.walrus_module.walrus_body_writer.walrus_body_env.Refusals.{module_error}
 use Rattle.walrus_parse.specs.Refusals.{IsRefusal, refusal}
 
 error_is : (kind : FaultKind) (place : ℕ) → error_at kind place ≡ refusal (trouble_of kind) place

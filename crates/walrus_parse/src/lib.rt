@@ -18,17 +18,6 @@ pub mod body_trees {
     }
 }
 
-pub mod collections {
-    pub use walrus_named_bodies::item_names::module::collections::{
-        ModuleData, ModuleElements, ModuleExports, ModuleFunctions, ModuleGlobals, ModuleImports,
-        ModuleMemories, ModuleTables, ModuleTags,
-    };
-}
-
-pub mod features {
-    pub use walrus_named_bodies::file_bodies::items_into::tables_into::sections_into::operators::immediate_forms::reader::features::WasmFeatures;
-}
-
 pub mod file_bodies {
     pub mod items_into {
         pub mod functions_into {
@@ -61,74 +50,16 @@ pub mod file_bodies {
     }
 
     pub mod laws {
-        pub use walrus_named_bodies::file_bodies::laws::{
-            bodies_read_files, bodies_stop_files, filled_modules_are_ready,
-        };
+        pub use walrus_named_bodies::file_bodies::laws::bodies_read_files;
     }
-}
-
-pub mod functions_into {
-    pub use walrus_named_bodies::functions_into::FunctionBody;
-}
-
-pub mod index_maps {
-    pub use walrus_named_bodies::file_bodies::items_into::tables_into::sections_into::index_maps::IndicesToIds;
-}
-
-pub mod items {
-    pub use walrus_named_bodies::file_bodies::items_into::module_env::body_env::instr::type_table::ModuleLocals;
-}
-
-pub mod items_into {
-    pub use walrus_named_bodies::file_bodies::items_into::read_items;
-
-    pub mod laws {
-        pub use walrus_named_bodies::file_bodies::items_into::laws::filled_modules_are_numbered;
-    }
-}
-
-pub mod known_sections {
-    pub use walrus_named_bodies::file_bodies::items_into::tables_into::sections_into::known_sections::Sections;
-}
-
-pub mod local_counts {
-    pub use walrus_named_bodies::local_counts::few_are_numbered;
 }
 
 pub mod module {
     pub use walrus_named_bodies::item_names::module::Module;
 }
 
-pub mod module_bodies {
-    pub use walrus_named_bodies::module_bodies::{FileEnv, read_function};
-
-    pub mod laws {
-        pub use walrus_named_bodies::module_bodies::laws::bodies_hold_theirs;
-    }
-}
-
-pub mod module_items {
-    pub use walrus_named_bodies::module_items::FunctionKind;
-}
-
-pub mod named_bodies {
-    pub use walrus_named_bodies::{bodies_of, module_error, name_items};
-}
-
-pub mod payloads_into {
-    pub use walrus_named_bodies::file_bodies::payloads_into::producers_in;
-}
-
-pub mod sections {
-    pub use walrus_named_bodies::file_bodies::items_into::tables_into::sections::Sections;
-}
-
 pub mod spelled_modules {
     pub mod laws {
         pub use walrus_named_bodies::spelled_modules::laws::read_sections_are_spelled;
     }
-}
-
-pub mod types {
-    pub use walrus_named_bodies::file_bodies::items_into::module_env::body_env::instr::type_table::ModuleTypes;
 }

@@ -48,10 +48,6 @@ pub mod module_env {
     }
 }
 
-pub mod parse {
-    pub use walrus_parsed_items::parse::{FromBuffer, Parse, parse_into};
-}
-
 pub mod parsed_items {
     pub mod into_laws {
         pub use walrus_parsed_items::into_laws::{customs_mean, ordered_stay};

@@ -50,10 +50,6 @@ pub mod pairing {
     }
 }
 
-pub mod parse {
-    pub use walrus_parsed_linked::parse::{FromBuffer, Parse, parse_into};
-}
-
 pub mod parsed_bodies {
     pub mod laws {
         pub use walrus_parsed_linked::parsed_bodies::laws::bodies_of_read_modules_mean_theirs;

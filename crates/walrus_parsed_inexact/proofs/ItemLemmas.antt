@@ -13,8 +13,8 @@ use Rattle.walrus_marks.specs.walrus_instr.declared.const_expr.ConstExpr.{ConstE
 use Rattle.walrus_marks.specs.walrus_instr.declared.const_expr.ConstOp.TheVariants as consts
 use Rattle.walrus_marks.specs.walrus_instr.declared.const_expr.ConstOp.{ConstOp}
 use Rattle.walrus_parsed_served.specs.walrus_parsed_linked.walrus_parsed_items.walrus_into_laws.Renamed.{by_types, retyped_element, retyped_expr, retyped_global, retyped_items, retyped_mode, retyped_origin, retyped_segment, retyped_table}
-use Rattle.walrus_parsed_served.specs.walrus_parsed_linked.walrus_parsed_items.walrus_parse.walrus_file_bodies.walrus_items_into.walrus_tables_into.walrus_meaning.Meaning.{own_data_mode, own_element, own_element_mode, own_elements, own_global, own_segment, own_table, own_value_of}
-use Rattle.walrus_parsed_served.specs.walrus_parsed_linked.walrus_parsed_items.walrus_parse.walrus_file_bodies.walrus_items_into.walrus_tables_into.walrus_meaning.Words.{const_seen, own_expr, own_heap}
+use Rattle.walrus_parsed_served.specs.walrus_parsed_linked.walrus_parsed_items.walrus_parse.walrus_file_bodies.walrus_items_into.walrus_module_bodies.walrus_body_trees.walrus_meaning.Meaning.{own_data_mode, own_element, own_element_mode, own_elements, own_global, own_segment, own_table, own_value_of}
+use Rattle.walrus_parsed_served.specs.walrus_parsed_linked.walrus_parsed_items.walrus_parse.walrus_file_bodies.walrus_items_into.walrus_module_bodies.walrus_body_trees.walrus_meaning.Words.{const_seen, own_expr, own_heap}
 use Rattle.walrus_parsed_served.specs.walrus_parsed_linked.walrus_parsed_items.walrus_parse.walrus_file_bodies.walrus_items_into.walrus_module_env.walrus_collections.walrus_module_items.declared.data.Data.{Data}
 use Rattle.walrus_parsed_served.specs.walrus_parsed_linked.walrus_parsed_items.walrus_parse.walrus_file_bodies.walrus_items_into.walrus_module_env.walrus_collections.walrus_module_items.declared.data.DataKind.TheVariants as datas
 use Rattle.walrus_parsed_served.specs.walrus_parsed_linked.walrus_parsed_items.walrus_parse.walrus_file_bodies.walrus_items_into.walrus_module_env.walrus_collections.walrus_module_items.declared.data.DataKind.{DataKind}

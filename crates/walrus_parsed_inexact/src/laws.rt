@@ -3,13 +3,13 @@
 ghost use Rattle.walrus_parsed_inexact.specs.Passed.{ReadModulesHaveNoExact, ReadModulesPass, SentModulesPass};
 
 use walrus_function_types::laws::{entry_types_grow, found_types_stay, tables_grow_on};
+use walrus_instr::InstrLocId;
 use walrus_parsed_served::items_into::laws::{filled_functions_stand, filled_modules_are_filed};
 use walrus_parsed_served::laws::{modules_that_are_read_are_served, sent_modules_are_served};
 use walrus_parsed_served::module_env::laws::picks_are_seen;
 use walrus_parsed_served::pairing::laws::operators_come_back;
 use walrus_parsed_served::parsed_groups::laws::read_modules_have_handlers;
 use walrus_parsed_served::parsed_items::laws::read_modules_have_items;
-use walrus_parsed_served::sent_laws::instr::InstrLocId;
 use wasm_inexact_modules::laws::{read_bodies_are_inexact, read_sections_are_inexact};
 use wasm_operators::laws::operators_in_range_are_spelled;
 

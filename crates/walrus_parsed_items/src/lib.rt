@@ -65,10 +65,6 @@ pub mod items_into {
     }
 }
 
-pub mod parse {
-    pub use walrus_into_laws::parse::{FromBuffer, Parse, parse_into};
-}
-
 pub mod ruled_modules {
     pub mod laws {
         pub use wasm_import_links::ruled_modules::laws::read_modules_are_ruled;

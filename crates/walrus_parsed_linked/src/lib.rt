@@ -42,10 +42,6 @@ pub mod pairing {
     }
 }
 
-pub mod parse {
-    pub use walrus_parsed_locals::parse::{FromBuffer, Parse, parse_into};
-}
-
 pub mod parsed_bodies {
     pub mod file_bodies {
         pub mod items_into {

@@ -34,10 +34,6 @@ pub mod module_env {
     }
 }
 
-pub mod parse {
-    pub use walrus_parsed_bodies::parse::{FromBuffer, Parse, parse_into};
-}
-
 pub mod parsed_bodies {
     pub mod file_bodies {
         pub mod items_into {

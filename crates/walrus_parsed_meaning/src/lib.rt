@@ -4,10 +4,6 @@
 pub mod laws;
 
 // Passed on to crates above, which then list this one alone.
-pub mod parse {
-    pub use walrus_parsed_groups::parse::{FromBuffer, Parse, parse_into};
-}
-
 pub mod parsed_linked {
     pub mod laws {
         pub use walrus_parsed_groups::parsed_linked::laws::modules_that_are_read_are_linked;

@@ -3,11 +3,11 @@
 ghost use Rattle.walrus_parsed_served.specs.Served.{ReadModulesAreServed, SentModulesAreServed};
 ghost use Rattle.walrus_parsed_served.specs.Stays.{ReadTypesStayInGroups};
 
+use walrus_instr::InstrLocId;
 use walrus_parsed_groups::file_bodies::laws::bodies_read_files;
 use walrus_parsed_groups::laws::read_modules_have_handlers;
 use walrus_parsed_groups::parsed_linked::laws::modules_that_are_read_are_linked;
 use walrus_passes_laws::linked_are_served;
-use walrus_sent_laws::instr::InstrLocId;
 
 /// In a module that was read each type names types that stand no later than itself, or that are members of its group.
 pub fn types_of_read_modules_stay_in_groups<B>()

@@ -11,10 +11,6 @@ pub mod items_into {
     }
 }
 
-pub mod module {
-    pub use walrus_sent_laws::module::Module;
-}
-
 pub mod module_env {
     pub mod laws {
         pub use walrus_parsed_groups::module_env::laws::picks_are_seen;
@@ -36,25 +32,5 @@ pub mod parsed_groups {
 pub mod parsed_items {
     pub mod laws {
         pub use walrus_parsed_groups::parsed_items::laws::read_modules_have_items;
-    }
-}
-
-pub mod parsed_linked {
-    pub mod laws {
-        pub use walrus_parsed_groups::parsed_linked::laws::modules_that_are_read_are_linked;
-    }
-}
-
-pub mod passes {
-    pub use walrus_passes_laws::passes::gc;
-}
-
-pub mod passes_laws {
-    pub use walrus_passes_laws::gc_keeps_linked;
-}
-
-pub mod sent_laws {
-    pub mod instr {
-        pub use walrus_sent_laws::instr::InstrLocId;
     }
 }

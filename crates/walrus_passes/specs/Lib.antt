@@ -5,5 +5,4 @@ pub mod Part
 pub mod UsedItems
 -- Passed on to crates above, which then list this one alone.
 pub use Rattle.walrus_refusals.specs.walrus_exact as walrus_exact
-pub use Rattle.walrus_refusals.specs.walrus_linked as walrus_linked
 pub use Rattle.walrus_refusals.specs as walrus_refusals

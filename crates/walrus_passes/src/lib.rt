@@ -11,9 +11,7 @@ pub use used::Used;
 
 // Passed on to crates above, which then list this one alone.
 pub mod collections {
-    pub use walrus_refusals::used::collections::{
-        Collection, ModuleData, ModuleElements, ModuleFunctions,
-    };
+    pub use walrus_refusals::used::collections::Collection;
 }
 
 pub mod local_function {
@@ -22,8 +20,4 @@ pub mod local_function {
 
 pub mod module {
     pub use walrus_refusals::used::module::Module;
-}
-
-pub mod module_items {
-    pub use walrus_refusals::used::module_items::{DataKind, ElementItems, ElementKind};
 }

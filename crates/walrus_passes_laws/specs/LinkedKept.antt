@@ -2,7 +2,7 @@
 use Rattle.std.specs.Prelude.{List}
 use Rattle.walrus_passes.specs.walrus_refusals.walrus_used.walrus_module.Parts.{Module}
 use Rattle.walrus_roots.specs.declared.item.Item.{Item}
-use Rattle.walrus_passes.specs.walrus_linked.Linked.{IsLinked}
+use Rattle.walrus_linked.specs.Linked.{IsLinked}
 use Rattle.walrus_passes.specs.Part.{IsKeptPart}
 
 -- the kept part of a linked module is linked

@@ -7,7 +7,7 @@ use Rattle.walrus_errors.specs.declared.error.ModuleError.TheVariants as refusal
 use Rattle.walrus_passes.specs.walrus_refusals.walrus_used.walrus_module.Parts.{Module}
 use Rattle.walrus_passes.specs.walrus_refusals.walrus_used.walrus_module.Items.{Lives}
 use Rattle.walrus_roots.specs.declared.item.Item.{Item}
-use Rattle.walrus_passes.specs.walrus_linked.Linked.{IsLinked}
+use Rattle.walrus_linked.specs.Linked.{IsLinked}
 use Rattle.walrus_passes.specs.walrus_refusals.walrus_used.walrus_references.Refused.{FormsTree}
 use Rattle.walrus_passes.specs.walrus_refusals.Asked.{Linked}
 use Rattle.walrus_passes.specs.walrus_refusals.Sound.{AllReached, IsRefused}

@@ -25,8 +25,3 @@ pub fn linked_are_served()
     walrus_walks::laws::held_are_nested();
     walrus_tree::laws::trees_are_nested();
 }
-
-// Passed on to crates above, which then list this one alone.
-pub mod passes {
-    pub use walrus_passes::{Used, gc};
-}

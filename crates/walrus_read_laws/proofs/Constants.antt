@@ -3,23 +3,23 @@ use Rattle.std.specs.Prelude.{ℕ, ◌≡◌, nat_lt, true, false, List, [], ◌
 use Rattle.std.specs.Option.{option_and_then}
 use Rattle.std.proofs.Common.{ap, sym, ◌∙◌, subst}
 use Rattle.std.proofs.lemmas.Bool.{ltb-true}
-use Rattle.walrus_tables_into.specs.walrus_meaning.walrus_local_function.walrus_body_locals.walrus_body_nesting.wasm_formats.wasm_features.declared.WasmFeatures.{WasmFeatures}
-use Rattle.walrus_tables_into.specs.walrus_meaning.walrus_local_function.walrus_body_locals.walrus_body_nesting.wasm_formats.Stops.{Trouble}
-use Rattle.walrus_tables_into.specs.walrus_meaning.walrus_local_function.walrus_body_locals.wasm_grammar.Exprs.{Known, is_constant, item_test, items_test, heap_test}
-use Rattle.walrus_tables_into.specs.walrus_meaning.walrus_local_function.walrus_body_locals.wasm_grammar.TypeWords.{heap_of}
-use Rattle.walrus_tables_into.specs.walrus_meaning.walrus_local_function.walrus_body_locals.wasm_grammar.Values.{must}
-use Rattle.walrus_tables_into.specs.walrus_meaning.walrus_local_function.walrus_body_locals.wasm_grammar.wasm_operators.declared.entry.Kind.{Kind}
-use Rattle.walrus_tables_into.specs.walrus_meaning.walrus_local_function.walrus_body_locals.wasm_grammar.wasm_operators.declared.entry.Kind.TheVariants as kinds
-use Rattle.walrus_tables_into.specs.walrus_meaning.walrus_local_function.walrus_body_locals.wasm_grammar.wasm_operators.declared.op_code.OpCode.{OpCode}
-use Rattle.walrus_tables_into.specs.walrus_meaning.walrus_local_function.walrus_body_locals.wasm_grammar.wasm_operators.Kinds.{forms}
-use Rattle.walrus_tables_into.specs.walrus_meaning.walrus_local_function.walrus_body_locals.wasm_grammar.wasm_operators.Operators.{Seen, kind_of, op_code}
-use Rattle.walrus_tables_into.specs.walrus_meaning.walrus_local_function.walrus_body_locals.wasm_grammar.wasm_operators.Table.{call_rows, plain_rows, fb_rows, fd_rows}
-use Rattle.walrus_tables_into.specs.walrus_meaning.walrus_local_function.walrus_body_locals.wasm_grammar.wasm_operators.Items.{Space, Types, Functions, Globals, Item, Names, Number, S32, S64, Bits, Bytes, Heap}
-use Rattle.walrus_tables_into.specs.walrus_meaning.walrus_local_function.walrus_body_locals.wasm_grammar.wasm_operators.wasm_ref_types.declared.heap.AbstractHeapType.{AbstractHeapType}
-use Rattle.walrus_tables_into.specs.walrus_meaning.walrus_local_function.walrus_body_locals.wasm_grammar.wasm_operators.wasm_ref_types.declared.heap.AbstractHeapType.TheVariants as abstracts
-use Rattle.walrus_tables_into.specs.walrus_meaning.walrus_local_function.walrus_body_locals.wasm_grammar.wasm_operators.wasm_ref_types.declared.heap.HeapType.{HeapType as WrittenHeap}
-use Rattle.walrus_tables_into.specs.walrus_meaning.walrus_local_function.walrus_body_locals.wasm_grammar.wasm_operators.wasm_ref_types.declared.heap.HeapType.TheVariants.{Abstract as WAbstract, Concrete as WConcrete, Exact as WExact}
-use Rattle.walrus_tables_into.specs.walrus_meaning.walrus_local_function.walrus_body_locals.wasm_grammar.wasm_operators.wasm_ref_types.declared.index.UnpackedIndex.TheVariants.{Module, RecGroup, Id}
+use Rattle.walrus_tables_into.specs.walrus_sections_into.walrus_collections.walrus_local_function.walrus_body_locals.walrus_body_nesting.wasm_formats.wasm_features.declared.WasmFeatures.{WasmFeatures}
+use Rattle.walrus_tables_into.specs.walrus_sections_into.walrus_collections.walrus_local_function.walrus_body_locals.walrus_body_nesting.wasm_formats.Stops.{Trouble}
+use Rattle.walrus_tables_into.specs.walrus_sections_into.walrus_collections.walrus_local_function.walrus_body_locals.wasm_grammar.Exprs.{Known, is_constant, item_test, items_test, heap_test}
+use Rattle.walrus_tables_into.specs.walrus_sections_into.walrus_collections.walrus_local_function.walrus_body_locals.wasm_grammar.TypeWords.{heap_of}
+use Rattle.walrus_tables_into.specs.walrus_sections_into.walrus_collections.walrus_local_function.walrus_body_locals.wasm_grammar.Values.{must}
+use Rattle.walrus_tables_into.specs.walrus_sections_into.walrus_collections.walrus_local_function.walrus_body_locals.wasm_grammar.wasm_operators.declared.entry.Kind.{Kind}
+use Rattle.walrus_tables_into.specs.walrus_sections_into.walrus_collections.walrus_local_function.walrus_body_locals.wasm_grammar.wasm_operators.declared.entry.Kind.TheVariants as kinds
+use Rattle.walrus_tables_into.specs.walrus_sections_into.walrus_collections.walrus_local_function.walrus_body_locals.wasm_grammar.wasm_operators.declared.op_code.OpCode.{OpCode}
+use Rattle.walrus_tables_into.specs.walrus_sections_into.walrus_collections.walrus_local_function.walrus_body_locals.wasm_grammar.wasm_operators.Kinds.{forms}
+use Rattle.walrus_tables_into.specs.walrus_sections_into.walrus_collections.walrus_local_function.walrus_body_locals.wasm_grammar.wasm_operators.Operators.{Seen, kind_of, op_code}
+use Rattle.walrus_tables_into.specs.walrus_sections_into.walrus_collections.walrus_local_function.walrus_body_locals.wasm_grammar.wasm_operators.Table.{call_rows, plain_rows, fb_rows, fd_rows}
+use Rattle.walrus_tables_into.specs.walrus_sections_into.walrus_collections.walrus_local_function.walrus_body_locals.wasm_grammar.wasm_operators.Items.{Space, Types, Functions, Globals, Item, Names, Number, S32, S64, Bits, Bytes, Heap}
+use Rattle.walrus_tables_into.specs.walrus_sections_into.walrus_collections.walrus_local_function.walrus_body_locals.wasm_grammar.wasm_operators.wasm_ref_types.declared.heap.AbstractHeapType.{AbstractHeapType}
+use Rattle.walrus_tables_into.specs.walrus_sections_into.walrus_collections.walrus_local_function.walrus_body_locals.wasm_grammar.wasm_operators.wasm_ref_types.declared.heap.AbstractHeapType.TheVariants as abstracts
+use Rattle.walrus_tables_into.specs.walrus_sections_into.walrus_collections.walrus_local_function.walrus_body_locals.wasm_grammar.wasm_operators.wasm_ref_types.declared.heap.HeapType.{HeapType as WrittenHeap}
+use Rattle.walrus_tables_into.specs.walrus_sections_into.walrus_collections.walrus_local_function.walrus_body_locals.wasm_grammar.wasm_operators.wasm_ref_types.declared.heap.HeapType.TheVariants.{Abstract as WAbstract, Concrete as WConcrete, Exact as WExact}
+use Rattle.walrus_tables_into.specs.walrus_sections_into.walrus_collections.walrus_local_function.walrus_body_locals.wasm_grammar.wasm_operators.wasm_ref_types.declared.index.UnpackedIndex.TheVariants.{Module, RecGroup, Id}
 use Rattle.wasm_spelled_modules.specs.wasm_module_rules.Keeps.{must_holds, first_none}
 use Rattle.wasm_spelled_modules.specs.wasm_operators.Ranges.{Of, ItemsFit, OperatorFits}
 use Rattle.walrus_tables_into.specs.walrus_sections_into.walrus_forms.declared.value.AbstractHeapType.TheVariants as heaps

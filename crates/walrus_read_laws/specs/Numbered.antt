@@ -1,6 +1,6 @@
 -- Look-ups that find all that a module numbers.
 use Rattle.std.specs.Prelude.{ℕ, ◌<◌, ◌≡◌, length, Some}
-use Rattle.walrus_tables_into.specs.walrus_meaning.walrus_local_function.walrus_body_locals.wasm_grammar.Exprs.{Known}
+use Rattle.walrus_tables_into.specs.walrus_sections_into.walrus_collections.walrus_local_function.walrus_body_locals.wasm_grammar.Exprs.{Known}
 use Rattle.walrus_tables_into.specs.walrus_sections_into.wasm_operators.Items.{Space, Types, Functions, Globals}
 use Rattle.walrus_tables_into.specs.walrus_sections_into.walrus_pairing.Looks.{Look}
 

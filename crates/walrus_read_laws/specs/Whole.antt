@@ -1,9 +1,9 @@
 -- Nothing of what was read of a file lacks anything.
 use Rattle.std.specs.Prelude.{ℕ, ◌<◌, ◌≡◌, List, length, All}
 use Rattle.std.specs.List.{Any}
-use Rattle.walrus_tables_into.specs.walrus_meaning.walrus_local_function.walrus_body_locals.walrus_body_nesting.wasm_formats.wasm_features.declared.WasmFeatures.{WasmFeatures}
-use Rattle.walrus_tables_into.specs.walrus_meaning.walrus_local_function.walrus_body_locals.wasm_grammar.Modules.{Module}
-use Rattle.walrus_tables_into.specs.walrus_meaning.walrus_local_function.walrus_body_locals.wasm_grammar.States.{types_of}
+use Rattle.walrus_tables_into.specs.walrus_sections_into.walrus_collections.walrus_local_function.walrus_body_locals.walrus_body_nesting.wasm_formats.wasm_features.declared.WasmFeatures.{WasmFeatures}
+use Rattle.walrus_tables_into.specs.walrus_sections_into.walrus_collections.walrus_local_function.walrus_body_locals.wasm_grammar.Modules.{Module}
+use Rattle.walrus_tables_into.specs.walrus_sections_into.walrus_collections.walrus_local_function.walrus_body_locals.wasm_grammar.States.{types_of}
 use Rattle.walrus_tables_into.specs.walrus_sections_into.walrus_known_sections.wasm_sections.Laws.{ReadsSections}
 use Rattle.walrus_tables_into.specs.Elements.{ElementLacks}
 use Rattle.walrus_tables_into.specs.Globals.{GlobalLacks}

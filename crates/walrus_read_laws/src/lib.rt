@@ -15,37 +15,3 @@ pub mod spelled_modules {
         pub use wasm_spelled_modules::laws::read_sections_are_spelled;
     }
 }
-
-pub mod tables_into {
-    pub use walrus_tables_into::{add_customs, add_elements, add_globals, add_tables};
-
-    pub mod sections {
-        pub use walrus_tables_into::sections::Sections;
-    }
-
-    pub mod sections_into {
-        pub use walrus_tables_into::sections_into::{
-            IntoError, add_exports, add_imports, add_memories, add_segments, add_tags,
-            number_elements, number_globals, number_memories, number_segments, number_tables,
-            number_tags, read_start,
-        };
-
-        pub mod index_maps {
-            pub use walrus_tables_into::sections_into::index_maps::IndicesToIds;
-        }
-
-        pub mod known_sections {
-            pub use walrus_tables_into::sections_into::known_sections::{Chunk, Custom, Sections};
-        }
-
-        pub mod operators {
-            pub mod immediate_forms {
-                pub mod reader {
-                    pub mod features {
-                        pub use walrus_tables_into::sections_into::operators::immediate_forms::reader::features::WasmFeatures;
-                    }
-                }
-            }
-        }
-    }
-}

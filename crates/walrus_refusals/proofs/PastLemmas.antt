@@ -5,9 +5,9 @@ use Rattle.std.specs.List.{list_any}
 use Rattle.std.proofs.lemmas.List.{get_or-replicate, get_or_past, length-replicate}
 use Rattle.std.proofs.lemmas.Bool.{cases_eq, cases_lt, false≢true}
 use Rattle.walrus_arena.specs.Arena.{IsLive, item_at}
-use Rattle.walrus_linked.specs.walrus_module_items.declared.import.Import.{Import}
-use Rattle.walrus_linked.specs.walrus_module.Items.{brought}
-use Rattle.walrus_linked.specs.walrus_module.Parts.{Module}
+use Rattle.walrus_used.specs.walrus_module.walrus_module_items.declared.import.Import.{Import}
+use Rattle.walrus_used.specs.walrus_module.Items.{brought}
+use Rattle.walrus_used.specs.walrus_module.Parts.{Module}
 use Rattle.walrus_roots.specs.declared.item.Item.{Item}
 use Rattle.walrus_roots.specs.Items.{space_number}
 use Rattle.walrus_marks.specs.Chains.{FitsIn}

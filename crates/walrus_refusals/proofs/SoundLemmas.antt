@@ -11,10 +11,10 @@ use Rattle.wasm_formats.specs.declared.fault.Space.{Space}
 use Rattle.wasm_formats.specs.declared.fault.Space.TheVariants as spaces
 use Rattle.walrus_types.specs.TypeLaws.{AreGrouped}
 use Rattle.walrus_arena.specs.Arena.{Arena, item_at, next_id}
-use Rattle.walrus_linked.specs.walrus_module_items.declared.import.Import.{Import}
-use Rattle.walrus_linked.specs.walrus_module_items.declared.function.Function.{Function}
-use Rattle.walrus_linked.specs.walrus_module.Parts.{Module}
-use Rattle.walrus_linked.specs.Linked.{import_in}
+use Rattle.walrus_used.specs.walrus_module.walrus_module_items.declared.import.Import.{Import}
+use Rattle.walrus_used.specs.walrus_module.walrus_module_items.declared.function.Function.{Function}
+use Rattle.walrus_used.specs.walrus_module.Parts.{Module}
+use Rattle.walrus_used.specs.walrus_module.Linking.{import_in}
 use Rattle.walrus_roots.specs.declared.item.Item.{Item}
 use Rattle.walrus_roots.specs.Items.{item, space_number}
 use Rattle.walrus_marks.specs.Marks.{State, is_one_claimed, is_claimed, misses_claimed}
@@ -25,12 +25,12 @@ use Rattle.walrus_marks.specs.Chains.{IsReached as IsReachedIn}
 use Rattle.walrus_used.specs.walrus_references.References.{Refers}
 use Rattle.walrus_used.specs.walrus_references.Roots.{Root}
 use Rattle.walrus_used.specs.walrus_references.Kept.{IsReached}
-use Rattle.walrus_linked.specs.walrus_module.Items.{Lives, LivesIn}
+use Rattle.walrus_used.specs.walrus_module.Items.{Lives, LivesIn}
 use Rattle.walrus_used.specs.walrus_references.Refused.{FormsTree, HasTree, IsTreeIn}
 use Rattle.walrus_used.specs.Counts.{counts_of}
 use Rattle.walrus_used.proofs.CountLemmas.{lives_fit}
 use Rattle.walrus_refusals.specs.Asked.{Linked, IsOwnLinked, IsBrought, IsWholeIn, IsNamedBack}
-use Rattle.walrus_linked.specs.walrus_module.Items.{brought}
+use Rattle.walrus_used.specs.walrus_module.Items.{brought}
 use Rattle.walrus_refusals.specs.Checks.{IsMet, IsWell, AreClaims, AreLinked, HoldsMet, HoldsOrFails, AllClaimTruly, AreInexact, AreWell, FailsIn, HasMetForm}
 use Rattle.walrus_refusals.specs.Sound.{AllReached, HasForm, IsSound, Stands}
 use Rattle.walrus_refusals.specs.Written.{HasNoExact, HasNoExactIn, IsUnshared, IsUnsharedIn, StaysIn, StaysInGroup}

@@ -7,9 +7,9 @@ use Rattle.std.specs.declared.alloc.AllocError.{AllocError}
 use Rattle.walrus_builder.specs.declared.function.FunctionBuilder.{FunctionBuilder}
 use Rattle.walrus_builder.specs.Functions.{seqs_of}
 use Rattle.walrus_tree.specs.Trees.{IsTree}
-use Rattle.walrus_linked.specs.walrus_local_function.declared.local_function.LocalFunction.{LocalFunction}
-use Rattle.walrus_linked.specs.walrus_module_items.declared.function.FunctionKind.{FunctionKind}
-use Rattle.walrus_linked.specs.walrus_module_items.declared.function.FunctionKind.TheVariants as functions
+use Rattle.walrus_used.specs.walrus_module.walrus_local_function.declared.local_function.LocalFunction.{LocalFunction}
+use Rattle.walrus_used.specs.walrus_module.walrus_module_items.declared.function.FunctionKind.{FunctionKind}
+use Rattle.walrus_used.specs.walrus_module.walrus_module_items.declared.function.FunctionKind.TheVariants as functions
 use Rattle.walrus_used.specs.walrus_references.Refused.{HasTree}
 
 decided : {P : Type 0} (b : Bool) → MatchBool b P (P → ⊥) → Decides b P

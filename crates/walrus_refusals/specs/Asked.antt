@@ -4,13 +4,13 @@ use Rattle.wasm_formats.specs.declared.fault.Space.{Space}
 use Rattle.wasm_formats.specs.declared.fault.Space.TheVariants as spaces
 use Rattle.walrus_arena.specs.Arena.{Arena, item_at}
 use Rattle.walrus_types.specs.Table.{Table as TypeTable}
-use Rattle.walrus_linked.specs.walrus_module_items.declared.import.Import.{Import}
-use Rattle.walrus_linked.specs.walrus_module_items.declared.function.Function.{Function}
-use Rattle.walrus_linked.specs.walrus_module_items.declared.function.FunctionKind.{FunctionKind}
-use Rattle.walrus_linked.specs.walrus_module_items.declared.function.FunctionKind.TheVariants as functions
-use Rattle.walrus_linked.specs.walrus_module.Parts.{Module}
-use Rattle.walrus_linked.specs.walrus_module.Items.{brought}
-use Rattle.walrus_linked.specs.Linked.{HasArguments, import_in}
+use Rattle.walrus_used.specs.walrus_module.walrus_module_items.declared.import.Import.{Import}
+use Rattle.walrus_used.specs.walrus_module.walrus_module_items.declared.function.Function.{Function}
+use Rattle.walrus_used.specs.walrus_module.walrus_module_items.declared.function.FunctionKind.{FunctionKind}
+use Rattle.walrus_used.specs.walrus_module.walrus_module_items.declared.function.FunctionKind.TheVariants as functions
+use Rattle.walrus_used.specs.walrus_module.Parts.{Module}
+use Rattle.walrus_used.specs.walrus_module.Items.{brought}
+use Rattle.walrus_used.specs.walrus_module.Linking.{HasArguments, import_in}
 use Rattle.walrus_roots.specs.declared.item.Item.{Item}
 
 -- the import that is named, if one is, lives and brings the item

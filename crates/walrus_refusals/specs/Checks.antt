@@ -5,16 +5,16 @@ use Rattle.wasm_formats.specs.declared.fault.Form.TheVariants as forms
 use Rattle.wasm_formats.specs.declared.fault.Space.{Space}
 use Rattle.wasm_formats.specs.declared.fault.Space.TheVariants as spaces
 use Rattle.walrus_arena.specs.Arena.{item_at, next_id}
-use Rattle.walrus_linked.specs.walrus_module_items.declared.import.Import.{Import}
-use Rattle.walrus_linked.specs.walrus_module.Parts.{Module}
-use Rattle.walrus_linked.specs.Linked.{import_in}
+use Rattle.walrus_used.specs.walrus_module.walrus_module_items.declared.import.Import.{Import}
+use Rattle.walrus_used.specs.walrus_module.Parts.{Module}
+use Rattle.walrus_used.specs.walrus_module.Linking.{import_in}
 use Rattle.walrus_roots.specs.declared.item.Item.{Item}
 use Rattle.walrus_roots.specs.Items.{item, space_number}
 use Rattle.walrus_marks.specs.Marks.{State, is_claimed, is_marked, misses_claimed}
 use Rattle.walrus_marks.specs.Chains.{FitsIn}
 use Rattle.walrus_used.specs.Counts.{counts_of}
 use Rattle.walrus_used.specs.Asked.{AllHold}
-use Rattle.walrus_linked.specs.walrus_module.Items.{brought}
+use Rattle.walrus_used.specs.walrus_module.Items.{brought}
 use Rattle.walrus_used.specs.walrus_references.Refused.{FormsTree}
 use Rattle.walrus_refusals.specs.Asked.{IsOwnLinked}
 use Rattle.walrus_refusals.specs.Sound.{Stands}

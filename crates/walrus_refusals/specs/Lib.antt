@@ -6,4 +6,3 @@ pub mod Written
 -- Passed on to crates above, which then list this one alone.
 pub use Rattle.walrus_used.specs as walrus_used
 pub use Rattle.walrus_exact.specs as walrus_exact
-pub use Rattle.walrus_linked.specs as walrus_linked

@@ -4,10 +4,10 @@ use Rattle.wasm_formats.specs.declared.fault.Form.{Form}
 use Rattle.wasm_formats.specs.declared.fault.Form.TheVariants as forms
 use Rattle.walrus_errors.specs.declared.error.ModuleError.{ModuleError}
 use Rattle.walrus_errors.specs.declared.error.ModuleError.TheVariants as refusals
-use Rattle.walrus_linked.specs.walrus_module.Parts.{Module}
+use Rattle.walrus_used.specs.walrus_module.Parts.{Module}
 use Rattle.walrus_roots.specs.declared.item.Item.{Item}
 use Rattle.walrus_used.specs.walrus_references.Kept.{IsReached}
-use Rattle.walrus_linked.specs.walrus_module.Items.{Lives}
+use Rattle.walrus_used.specs.walrus_module.Items.{Lives}
 use Rattle.walrus_used.specs.walrus_references.Refused.{FormsTree}
 use Rattle.walrus_refusals.specs.Asked.{Linked}
 use Rattle.walrus_refusals.specs.Written.{StaysInGroup, IsUnshared, HasNoExact}

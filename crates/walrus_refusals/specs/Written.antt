@@ -9,13 +9,13 @@ use Rattle.walrus_items.specs.declared.local.Local.{Local}
 use Rattle.walrus_types.specs.Table.{Table as TypeTable, HasMember, type_at}
 use Rattle.walrus_instr.specs.declared.seq.InstrSeq.{InstrSeq}
 use Rattle.walrus_builder.specs.Functions.{seqs_of}
-use Rattle.walrus_linked.specs.walrus_module_items.declared.function.Function.{Function}
-use Rattle.walrus_linked.specs.walrus_module_items.declared.function.FunctionKind.{FunctionKind}
-use Rattle.walrus_linked.specs.walrus_module_items.declared.function.FunctionKind.TheVariants as functions
-use Rattle.walrus_linked.specs.walrus_module_items.declared.global.Global.{Global}
-use Rattle.walrus_linked.specs.walrus_module_items.declared.data.Data.{Data}
+use Rattle.walrus_used.specs.walrus_module.walrus_module_items.declared.function.Function.{Function}
+use Rattle.walrus_used.specs.walrus_module.walrus_module_items.declared.function.FunctionKind.{FunctionKind}
+use Rattle.walrus_used.specs.walrus_module.walrus_module_items.declared.function.FunctionKind.TheVariants as functions
+use Rattle.walrus_used.specs.walrus_module.walrus_module_items.declared.global.Global.{Global}
+use Rattle.walrus_used.specs.walrus_module.walrus_module_items.declared.data.Data.{Data}
 use Rattle.walrus_exact.specs.Exact.{form_exact, seq_exact, table_exact, global_exact, element_exact, data_exact, val_exact}
-use Rattle.walrus_linked.specs.walrus_module.Parts.{Module}
+use Rattle.walrus_used.specs.walrus_module.Parts.{Module}
 use Rattle.walrus_roots.specs.declared.item.Item.{Item}
 use Rattle.walrus_used.specs.walrus_references.References.{Reaches}
 

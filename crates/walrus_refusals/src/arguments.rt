@@ -3,7 +3,7 @@ ghost use Rattle.std.specs.Prelude.{◌≡◌, Decides, IfOk, IfSome, length};
 ghost use Rattle.walrus_forms.specs.Forms.{form_of, params_of};
 ghost use Rattle.walrus_types.specs.Table.{type_at};
 ghost use Rattle.walrus_tree.specs.Trees.{AreDistinct};
-ghost use Rattle.walrus_linked.specs.Linked.{HasArguments};
+ghost use Rattle.walrus_used.specs.walrus_module.Linking.{HasArguments};
 
 use std::alloc::{AllocError, Global};
 use walrus_arena::{IdHashSet, LocalId, LocalSpace, TypeId};

@@ -1,6 +1,6 @@
 //! Checks of the items that were met.
 ghost use Rattle.std.specs.Prelude.{◌≡◌, ◌<◌, ◌≤◌, ◌^◌, Decides, IfOk};
-ghost use Rattle.walrus_linked.specs.walrus_module.Parts.{parts};
+ghost use Rattle.walrus_used.specs.walrus_module.Parts.{parts};
 ghost use Rattle.walrus_roots.specs.declared.item.Item.{Item as AnyItem};
 ghost use Rattle.walrus_roots.specs.Items.{space_number};
 ghost use Rattle.walrus_marks.specs.Chains.{FitsIn};
@@ -8,9 +8,9 @@ ghost use Rattle.walrus_used.specs.Counts.{counts_of};
 ghost use Rattle.walrus_refusals.specs.Checks.{HoldsIn, HoldsOrFails, IsMet};
 
 use std::alloc::AllocError;
-use walrus_linked::module::Module;
 use walrus_marks::Marks;
 use walrus_roots::Item;
+use walrus_used::module::Module;
 use walrus_used::{Check, id_counts};
 use wasm_formats::Space;
 

@@ -1,15 +1,15 @@
 //! What imports bring that was never given out.
 ghost use Rattle.std.specs.Prelude.{◌≡◌, IfOk, OnOk, length};
-ghost use Rattle.walrus_linked.specs.walrus_module.Parts.{parts};
+ghost use Rattle.walrus_used.specs.walrus_module.Parts.{parts};
 ghost use Rattle.walrus_refusals.specs.Checks.{AreClaims, IsAddedPast};
 
 use crate::linked::brought;
 use std::alloc::{AllocError, Global};
 use walrus_arena::ImportId;
-use walrus_linked::module::Module;
 use walrus_marks::Claims;
 use walrus_roots::Item;
 use walrus_used::id_counts;
+use walrus_used::module::Module;
 
 // Adds the item if there are fewer ids in its space.
 fn add_past(claims: &mut Claims, counts: &[usize; 10], item: Item) -> Result<(), AllocError>

@@ -2,17 +2,17 @@
 ghost use Rattle.std.specs.Prelude.{◌≡◌, Contains, Decides, IfOk, ℕ};
 ghost use Rattle.std.specs.Option.{option_map};
 ghost use Rattle.walrus_items.specs.Items.{group_of};
-ghost use Rattle.walrus_linked.specs.walrus_module.Parts.{parts};
+ghost use Rattle.walrus_used.specs.walrus_module.Parts.{parts};
 ghost use Rattle.walrus_refusals.specs.Grouped.{are_one, begin_alike};
 ghost use Rattle.walrus_refusals.specs.Written.{AreInOneGroup, MayName, NamesNoLater, StaysInGroup};
 
 use std::alloc::{AllocError, Global};
 use walrus_arena::TypeId;
 use walrus_items::RecGroup;
-use walrus_linked::module::Module;
 use walrus_roots::Item;
 use walrus_types::ModuleTypes;
 use walrus_used::Check;
+use walrus_used::module::Module;
 use wasm_formats::Space;
 
 // Whether both lists begin, with one id.

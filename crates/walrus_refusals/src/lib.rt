@@ -19,9 +19,7 @@ pub mod used {
     pub use walrus_used::{id_counts, type_count};
 
     pub mod collections {
-        pub use walrus_used::collections::{
-            Collection, ModuleData, ModuleElements, ModuleFunctions, ModuleImports,
-        };
+        pub use walrus_used::collections::{Collection, ModuleImports};
     }
 
     pub mod local_function {
@@ -30,9 +28,5 @@ pub mod used {
 
     pub mod module {
         pub use walrus_used::module::Module;
-    }
-
-    pub mod module_items {
-        pub use walrus_used::module_items::{DataKind, ElementItems, ElementKind};
     }
 }

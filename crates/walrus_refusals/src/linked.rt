@@ -1,29 +1,30 @@
 //! Whether items and imports name each other, and functions have bodies.
 ghost use Rattle.std.specs.Prelude.{◌≡◌, Decides, IfOk, MatchOption};
 ghost use Rattle.std.specs.Option.{option_and_then};
-ghost use Rattle.walrus_linked.specs.walrus_module.Parts.{parts};
+ghost use Rattle.walrus_used.specs.walrus_module.Parts.{parts};
 ghost use Rattle.walrus_arena.specs.Arena.{item_at};
-ghost use Rattle.walrus_linked.specs.walrus_module_items.declared.function.Function.{Function as AnyFunction};
-ghost use Rattle.walrus_linked.specs.walrus_module_items.declared.table.Table.{Table as AnyTable};
-ghost use Rattle.walrus_linked.specs.walrus_module_items.declared.memory.Memory.{Memory as AnyMemory};
-ghost use Rattle.walrus_linked.specs.walrus_module_items.declared.global.Global.{Global as AnyGlobal};
-ghost use Rattle.walrus_linked.specs.walrus_module_items.declared.tag.Tag.{Tag as AnyTag};
-ghost use Rattle.walrus_linked.specs.Linked.{function_import, global_import, import_in, tag_import};
+ghost use Rattle.walrus_used.specs.walrus_module.walrus_module_items.declared.function.Function.{Function as AnyFunction};
+ghost use Rattle.walrus_used.specs.walrus_module.walrus_module_items.declared.table.Table.{Table as AnyTable};
+ghost use Rattle.walrus_used.specs.walrus_module.walrus_module_items.declared.memory.Memory.{Memory as AnyMemory};
+ghost use Rattle.walrus_used.specs.walrus_module.walrus_module_items.declared.global.Global.{Global as AnyGlobal};
+ghost use Rattle.walrus_used.specs.walrus_module.walrus_module_items.declared.tag.Tag.{Tag as AnyTag};
+ghost use Rattle.walrus_used.specs.walrus_module.walrus_module_items.Imported.{function_import, global_import, tag_import};
+ghost use Rattle.walrus_used.specs.walrus_module.Linking.{import_in};
 ghost use Rattle.walrus_refusals.specs.Asked.{HasBody, IsBrought, IsOwnLinked, IsWholeIn};
-ghost use Rattle.walrus_linked.specs.walrus_module.Items.{brought};
+ghost use Rattle.walrus_used.specs.walrus_module.Items.{brought};
 ghost use Rattle.walrus_refusals.specs.Checks.{AllClaimTruly, ClaimsTruly};
 
 use crate::arguments::has_arguments;
 use std::alloc::{AllocError, Global};
 use walrus_arena::{FunctionId, GlobalId, ImportId, MemoryId, TableId, TagId};
 use walrus_exact::module_items::{FunctionKind, GlobalKind, Import, ImportKind, TagKind};
-use walrus_linked::collections::{
-    ModuleFunctions, ModuleGlobals, ModuleImports, ModuleMemories, ModuleTables, ModuleTags,
-};
-use walrus_linked::module::Module;
 use walrus_marks::Marks;
 use walrus_roots::Item;
 use walrus_used::Check;
+use walrus_used::collections::{
+    ModuleFunctions, ModuleGlobals, ModuleImports, ModuleMemories, ModuleTables, ModuleTags,
+};
+use walrus_used::module::Module;
 use wasm_formats::Space;
 
 /// The item that an import brings.

@@ -1,15 +1,15 @@
 //! Whether items live.
 ghost use Rattle.std.specs.Prelude.{Decides, IfOk, IsSome};
-ghost use Rattle.walrus_linked.specs.walrus_module.Parts.{parts};
-ghost use Rattle.walrus_linked.specs.walrus_module.Items.{written_type};
-ghost use Rattle.walrus_linked.specs.walrus_module.Items.{Lives};
+ghost use Rattle.walrus_used.specs.walrus_module.Parts.{parts};
+ghost use Rattle.walrus_used.specs.walrus_module.Items.{written_type};
+ghost use Rattle.walrus_used.specs.walrus_module.Items.{Lives};
 
 use std::alloc::AllocError;
 use walrus_arena::TypeId;
-use walrus_linked::module::Module;
 use walrus_roots::Item;
 use walrus_types::ModuleTypes;
 use walrus_used::Check;
+use walrus_used::module::Module;
 use wasm_formats::Space;
 
 // Whether the type lives and is no entry type.

@@ -1,12 +1,12 @@
 //! What is reached in a module, where nothing is wrong with it.
 ghost use Rattle.std.specs.Prelude.{◌≡◌, ◌↔◌, Decides, IfErr, IfOk, MatchOption, None, OnOk};
 ghost use Rattle.std.specs.Bool.{OnTrue};
-ghost use Rattle.walrus_linked.specs.walrus_module.Parts.{parts};
+ghost use Rattle.walrus_used.specs.walrus_module.Parts.{parts};
 ghost use Rattle.walrus_roots.specs.declared.item.Item.{Item as AnyItem};
 ghost use Rattle.walrus_marks.specs.Chains.{FitsIn};
 ghost use Rattle.walrus_used.specs.Asked.{AllHold};
 ghost use Rattle.walrus_used.specs.walrus_references.Kept.{IsReached};
-ghost use Rattle.walrus_linked.specs.walrus_module.Items.{Lives};
+ghost use Rattle.walrus_used.specs.walrus_module.Items.{Lives};
 ghost use Rattle.walrus_used.specs.Counts.{counts_of};
 ghost use Rattle.walrus_refusals.specs.Checks.{AreLinked, AreWell, AreInexact, FailsIn, HasMetForm, HoldsMet, IsMet, IsWell};
 ghost use Rattle.walrus_refusals.specs.Sound.{IsRefused, IsSound, Stands};
@@ -21,9 +21,9 @@ use crate::trees::Trees;
 use crate::written::{Inexact, Unshared, locals_have_none};
 use std::alloc::{AllocError, Global};
 use walrus_errors::{Form, ModuleError};
-use walrus_linked::module::Module;
 use walrus_marks::Marks;
 use walrus_roots::Item;
+use walrus_used::module::Module;
 use walrus_used::{Check, Reached, reach_items};
 use wasm_formats::Space;
 

@@ -1,18 +1,18 @@
 //! Whether bodies are trees.
 ghost use Rattle.std.specs.Prelude.{Decides, IfOk, MatchOption};
-ghost use Rattle.walrus_linked.specs.walrus_module.Parts.{parts};
+ghost use Rattle.walrus_used.specs.walrus_module.Parts.{parts};
 ghost use Rattle.walrus_arena.specs.Arena.{item_at};
-ghost use Rattle.walrus_linked.specs.walrus_module_items.declared.function.Function.{Function as AnyFunction};
+ghost use Rattle.walrus_used.specs.walrus_module.walrus_module_items.declared.function.Function.{Function as AnyFunction};
 ghost use Rattle.walrus_used.specs.walrus_references.Refused.{FormsTree, HasTree};
 
 use std::alloc::{AllocError, Global};
 use walrus_arena::FunctionId;
 use walrus_exact::module_items::FunctionKind;
-use walrus_linked::collections::ModuleFunctions;
-use walrus_linked::module::Module;
 use walrus_roots::Item;
 use walrus_tree::check_tree;
 use walrus_used::Check;
+use walrus_used::collections::ModuleFunctions;
+use walrus_used::module::Module;
 use wasm_formats::Space;
 
 // Whether the body of a function is a tree, if it has one.

@@ -7,11 +7,11 @@ ghost use Rattle.walrus_items.specs.Items.{Item as TypeItem};
 ghost use Rattle.walrus_items.specs.declared.local.Local.{Local as AnyLocal};
 ghost use Rattle.walrus_types.specs.Table.{type_at};
 ghost use Rattle.walrus_instr.specs.declared.seq.InstrSeq.{InstrSeq as AnySeq};
-ghost use Rattle.walrus_linked.specs.walrus_module_items.declared.function.Function.{Function as AnyFunction};
-ghost use Rattle.walrus_linked.specs.walrus_module_items.declared.global.Global.{Global as AnyGlobal};
-ghost use Rattle.walrus_linked.specs.walrus_module_items.declared.data.Data.{Data as AnyData};
+ghost use Rattle.walrus_used.specs.walrus_module.walrus_module_items.declared.function.Function.{Function as AnyFunction};
+ghost use Rattle.walrus_used.specs.walrus_module.walrus_module_items.declared.global.Global.{Global as AnyGlobal};
+ghost use Rattle.walrus_used.specs.walrus_module.walrus_module_items.declared.data.Data.{Data as AnyData};
 ghost use Rattle.walrus_exact.specs.Exact.{form_exact, seq_exact, table_exact, global_exact, element_exact, data_exact, val_exact};
-ghost use Rattle.walrus_linked.specs.walrus_module.Parts.{parts};
+ghost use Rattle.walrus_used.specs.walrus_module.Parts.{parts};
 ghost use Rattle.walrus_roots.specs.Items.{item};
 ghost use Rattle.walrus_marks.specs.Chains.{IsReached};
 ghost use Rattle.walrus_used.specs.walrus_references.References.{Holds, IsEntry};
@@ -27,13 +27,13 @@ use walrus_exact::{
 };
 use walrus_instr::InstrSeq;
 use walrus_items::Local;
-use walrus_linked::collections::{
-    ModuleData, ModuleElements, ModuleFunctions, ModuleGlobals, ModuleTables,
-};
-use walrus_linked::module::Module;
 use walrus_marks::Marks;
 use walrus_roots::Item;
 use walrus_types::ModuleTypes;
+use walrus_used::collections::{
+    ModuleData, ModuleElements, ModuleFunctions, ModuleGlobals, ModuleTables,
+};
+use walrus_used::module::Module;
 use walrus_used::{Check, reached_seqs};
 use wasm_formats::Space;
 

@@ -22,7 +22,7 @@ use Rattle.walrus_instr.specs.declared.instr.Value.TheVariants.{I32, I64, F32, F
 use Rattle.walrus_instr.specs.declared.const_expr.ConstOp.TheVariants as consts
 use Rattle.walrus_instr.specs.Constants.{const_of}
 use Rattle.walrus_pairing.specs.Write.{operator_at}
-use Rattle.walrus_meaning.specs.Words.{const_seen, itself}
+use Rattle.walrus_collections.specs.walrus_module_items.Words.{const_seen, itself}
 
 pub value_is : (v : Value) → operator_at itself (instrs.Const v) ≡ Ok (Some (const_seen (const_of v)))
 unfolding operator_at

@@ -3,8 +3,8 @@ use Rattle.std.specs.Bool.{OnFalse, OnTrue}
 use Rattle.std.specs.declared.alloc.Global.{Global as Alloc}
 use Rattle.std.specs.declared.vec.Vec.{Vec}
 use Rattle.std.proofs.Common.{◌≡◌, ℕ, Bool, true, false, [], None, refl, ap}
-use Rattle.walrus_meaning.specs.walrus_linked.walrus_module_items.declared.data.Data.{Data}
-use Rattle.walrus_meaning.specs.walrus_linked.walrus_module_items.declared.data.DataKind.{DataKind}
+use Rattle.walrus_collections.specs.walrus_module_items.declared.data.Data.{Data}
+use Rattle.walrus_collections.specs.walrus_module_items.declared.data.DataKind.{DataKind}
 use Rattle.walrus_sections_into.specs.Segments.{IsHeld}
 
 abbrev pub segment : ℕ → DataKind → Vec ℕ Alloc → Data

@@ -12,7 +12,7 @@ use Rattle.walrus_operators.specs.Operators.{seen}
 use Rattle.walrus_instr.specs.declared.const_expr.ConstOp.{ConstOp}
 use Rattle.walrus_index_maps.specs.Maps.{Ids}
 use Rattle.walrus_pairing.specs.Looks.{Look, id_of}
-use Rattle.walrus_meaning.specs.Words.{const_seen}
+use Rattle.walrus_collections.specs.walrus_module_items.Words.{const_seen}
 use Rattle.walrus_sections_into.specs.Consts.{const_at}
 
 -- the id that a number names

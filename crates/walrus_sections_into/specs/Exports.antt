@@ -4,9 +4,9 @@ use Rattle.wasm_formats.specs.declared.fault.Space.{Space}
 use Rattle.wasm_formats.specs.declared.fault.Space.TheVariants as spaces
 use Rattle.wasm_operators.specs.Items.{Functions, Tables, Memories, Globals, Tags}
 use Rattle.walrus_pairing.specs.Looks.{Look}
-use Rattle.walrus_meaning.specs.walrus_linked.walrus_module_items.declared.export.Export.{Export}
-use Rattle.walrus_meaning.specs.walrus_linked.walrus_module_items.declared.export.ExportItem.{ExportItem}
-use Rattle.walrus_meaning.specs.walrus_linked.walrus_module_items.declared.export.ExportItem.TheVariants as items
+use Rattle.walrus_collections.specs.walrus_module_items.declared.export.Export.{Export}
+use Rattle.walrus_collections.specs.walrus_module_items.declared.export.ExportItem.{ExportItem}
+use Rattle.walrus_collections.specs.walrus_module_items.declared.export.ExportItem.TheVariants as items
 use Rattle.walrus_known_sections.specs.declared.items.Export.{Export as ReadExport}
 
 -- the item of a space that a number names

@@ -3,9 +3,9 @@ use Rattle.std.specs.Prelude.{ℕ, ◌≡◌, Bool, true, false, List, [], ◌�
 use Rattle.wasm_operators.specs.Items.{Memories}
 use Rattle.walrus_instr.specs.Constants.{ops_of}
 use Rattle.walrus_pairing.specs.Looks.{Look}
-use Rattle.walrus_meaning.specs.walrus_linked.walrus_module_items.declared.data.Data.{Data}
-use Rattle.walrus_meaning.specs.walrus_linked.walrus_module_items.declared.data.DataKind.{DataKind}
-use Rattle.walrus_meaning.specs.walrus_linked.walrus_module_items.declared.data.DataKind.TheVariants as kinds
+use Rattle.walrus_collections.specs.walrus_module_items.declared.data.Data.{Data}
+use Rattle.walrus_collections.specs.walrus_module_items.declared.data.DataKind.{DataKind}
+use Rattle.walrus_collections.specs.walrus_module_items.declared.data.DataKind.TheVariants as kinds
 use Rattle.walrus_known_sections.specs.declared.items.Data.{Data as ReadData}
 use Rattle.walrus_known_sections.specs.declared.items.Mode.{Mode}
 use Rattle.walrus_known_sections.specs.declared.items.Mode.TheVariants as modes

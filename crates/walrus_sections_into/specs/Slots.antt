@@ -5,10 +5,10 @@ use Rattle.std.specs.HashSet.{keys}
 use Rattle.std.proofs.Common.{ap, sym, ◌∙◌, subst, arith}
 use Rattle.std.proofs.lemmas.List.{append_assoc, append-nil, length-append}
 use Rattle.walrus_arena.specs.Arena.{Arena}
-use Rattle.walrus_meaning.specs.walrus_linked.walrus_module_items.declared.memory.Memory.{Memory}
+use Rattle.walrus_collections.specs.walrus_module_items.declared.memory.Memory.{Memory}
 use Rattle.walrus_known_sections.specs.declared.items.Memory.{Memory as ReadMemory}
 use Rattle.walrus_known_sections.specs.Items.{memory_of}
-use Rattle.walrus_meaning.specs.Meaning.{own_memory}
+use Rattle.walrus_collections.specs.walrus_module_items.Words.{own_memory}
 
 module _ {X Y : Type 0} (R : ℕ → X → Y → Type 0) where
   -- as many filled slots, each with what an item became; the first one is this slot

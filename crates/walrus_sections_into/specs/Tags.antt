@@ -2,8 +2,8 @@
 use Rattle.std.specs.Prelude.{ℕ, ◌≡◌, Some, None}
 use Rattle.wasm_operators.specs.Items.{Types}
 use Rattle.walrus_pairing.specs.Looks.{Look}
-use Rattle.walrus_meaning.specs.walrus_linked.Linked.{tag_import}
-use Rattle.walrus_meaning.specs.walrus_linked.walrus_module_items.declared.tag.Tag.{Tag}
+use Rattle.walrus_collections.specs.walrus_module_items.Imported.{tag_import}
+use Rattle.walrus_collections.specs.walrus_module_items.declared.tag.Tag.{Tag}
 use Rattle.walrus_known_sections.specs.declared.items.Tag.{Tag as ReadTag}
 
 -- of the type that is named, brought by the same import; its id is its slot

@@ -3,7 +3,7 @@
 ghost use Rattle.std.specs.Prelude.{◌≡◌, IfSome, Some, Ok};
 ghost use Rattle.walrus_instr.specs.declared.instr.Instr.TheVariants as instrs;
 ghost use Rattle.walrus_pairing.specs.Write.{operator_at};
-ghost use Rattle.walrus_meaning.specs.Words.{const_seen, itself};
+ghost use Rattle.walrus_collections.specs.walrus_module_items.Words.{const_seen, itself};
 ghost use Rattle.walrus_sections_into.specs.Consts.{binary_const, instr_const};
 
 use walrus_instr::{BinaryOp, ConstOp, Instr, Value};

@@ -3,7 +3,7 @@
 ghost use Rattle.std.specs.Prelude.{◌≡◌, IfOk, IfErr, OnOk, OnErr};
 ghost use Rattle.std.specs.List.{Any};
 ghost use Rattle.walrus_arena.specs.Arena.{next_id};
-ghost use Rattle.walrus_meaning.specs.walrus_linked.walrus_collections.Added.{Adds};
+ghost use Rattle.walrus_collections.specs.Added.{Adds};
 ghost use Rattle.walrus_index_maps.specs.Views.{ids};
 ghost use Rattle.walrus_sections_into.specs.Becomes.{look_of};
 ghost use Rattle.walrus_sections_into.specs.Slots.{Filled, FilledInPart};
@@ -13,10 +13,10 @@ ghost use Rattle.walrus_sections_into.specs.declared.error.IntoError.TheVariants
 
 use crate::error::IntoError;
 use crate::ids::{function_id, global_id, memory_id, small, table_id, tag_id};
+use walrus_collections::ModuleImports;
+use walrus_collections::module_items::ImportKind;
 use walrus_index_maps::IndicesToIds;
 use walrus_known_sections::Import;
-use walrus_meaning::linked::collections::ModuleImports;
-use walrus_meaning::module::module_items::ImportKind;
 use wasm_formats::Space;
 
 // What is brought.

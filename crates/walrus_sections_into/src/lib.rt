@@ -31,7 +31,7 @@ pub mod arena {
 }
 
 pub mod collections {
-    pub use walrus_meaning::linked::collections::{ModuleElements, ModuleGlobals, ModuleTables};
+    pub use walrus_collections::{ModuleElements, ModuleGlobals, ModuleTables};
 }
 
 pub mod forms {
@@ -47,23 +47,13 @@ pub mod instr {
 }
 
 pub mod known_sections {
-    pub use walrus_known_sections::{
-        Chunk, Custom, Element, ElementItems, Mode, Sections, Table, TableType,
-    };
+    pub use walrus_known_sections::{Custom, Element, ElementItems, Mode, Table, TableType};
 }
 
 pub mod module_items {
-    pub use walrus_meaning::module::module_items::{ElementItems, ElementKind, GlobalKind};
+    pub use walrus_collections::module_items::{ElementItems, ElementKind, GlobalKind};
 }
 
 pub mod operators {
     pub use walrus_operators::Operator;
-
-    pub mod immediate_forms {
-        pub mod reader {
-            pub mod features {
-                pub use walrus_operators::immediate_forms::reader::features::WasmFeatures;
-            }
-        }
-    }
 }

@@ -3,15 +3,15 @@
 ghost use Rattle.std.specs.Prelude.{◌≡◌, IfErr, OnOk, OnErr};
 ghost use Rattle.walrus_known_sections.specs.Items.{memory_of};
 ghost use Rattle.walrus_arena.specs.Arena.{next_id};
-ghost use Rattle.walrus_meaning.specs.walrus_linked.walrus_collections.Added.{Adds};
-ghost use Rattle.walrus_meaning.specs.Meaning.{own_memory};
+ghost use Rattle.walrus_collections.specs.Added.{Adds};
+ghost use Rattle.walrus_collections.specs.walrus_module_items.Words.{own_memory};
 ghost use Rattle.walrus_sections_into.specs.Slots.{Filled, FilledInPart, IsMemoryOf};
 ghost use Rattle.walrus_sections_into.specs.declared.error.IntoError.TheVariants.{Memory as NoMemory};
 
 use crate::error::IntoError;
 use crate::ids::import_id;
+use walrus_collections::ModuleMemories;
 use walrus_known_sections::Memory;
-use walrus_meaning::linked::collections::ModuleMemories;
 
 fn add_memory(memory: &Memory, into: &mut ModuleMemories) -> Result<(), IntoError>
     ensures added { OnOk result (Adds (IsMemoryOf (next_id into.old) memory.now) into.old into.new) }

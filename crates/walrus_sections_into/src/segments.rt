@@ -4,7 +4,7 @@ ghost use Rattle.std.specs.Prelude.{◌≡◌, [], IfOk, IfErr, OnOk, OnErr};
 ghost use Rattle.std.specs.Bool.{OnFalse, OnTrue};
 ghost use Rattle.std.specs.List.{Any};
 ghost use Rattle.walrus_arena.specs.Arena.{next_id};
-ghost use Rattle.walrus_meaning.specs.walrus_linked.walrus_collections.Added.{Adds};
+ghost use Rattle.walrus_collections.specs.Added.{Adds};
 ghost use Rattle.walrus_index_maps.specs.Views.{ids};
 ghost use Rattle.walrus_sections_into.specs.Becomes.{look_of};
 ghost use Rattle.walrus_sections_into.specs.Lacks.{DataLacks, PlaceLacks};
@@ -16,10 +16,10 @@ use crate::error::IntoError;
 use crate::exprs::read_expr;
 use crate::ids::memory_id;
 use std::alloc::Global;
+use walrus_collections::ModuleData;
+use walrus_collections::module_items::DataKind;
 use walrus_index_maps::IndicesToIds;
 use walrus_known_sections::{Data, Mode};
-use walrus_meaning::linked::collections::ModuleData;
-use walrus_meaning::module::module_items::DataKind;
 
 // When it is copied.
 fn read_mode(alloc: Global, mode: &Mode, maps: &IndicesToIds) -> Result<DataKind, IntoError>

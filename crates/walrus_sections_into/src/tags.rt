@@ -3,7 +3,7 @@
 ghost use Rattle.std.specs.Prelude.{◌≡◌, IfErr, OnOk, OnErr};
 ghost use Rattle.std.specs.List.{Any};
 ghost use Rattle.walrus_arena.specs.Arena.{next_id};
-ghost use Rattle.walrus_meaning.specs.walrus_linked.walrus_collections.Added.{Adds};
+ghost use Rattle.walrus_collections.specs.Added.{Adds};
 ghost use Rattle.walrus_index_maps.specs.Views.{ids};
 ghost use Rattle.walrus_sections_into.specs.Becomes.{look_of};
 ghost use Rattle.walrus_sections_into.specs.Lacks.{TagLacks};
@@ -13,9 +13,9 @@ ghost use Rattle.walrus_sections_into.specs.declared.error.IntoError.TheVariants
 
 use crate::error::IntoError;
 use crate::ids::{import_id, type_id};
+use walrus_collections::ModuleTags;
 use walrus_index_maps::IndicesToIds;
 use walrus_known_sections::Tag;
-use walrus_meaning::linked::collections::ModuleTags;
 
 fn add_tag(tag: &Tag, maps: &IndicesToIds, into: &mut ModuleTags) -> Result<(), IntoError>
     ensures added { OnOk result (Adds (IsTagOf (look_of (ids maps.now)) (next_id into.old) tag.now) into.old into.new) }

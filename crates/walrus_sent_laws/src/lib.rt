@@ -2,12 +2,3 @@
 #![tactic(auto)]
 
 pub mod laws;
-
-// Passed on to crates above, which then list this one alone.
-pub mod instr {
-    pub use walrus_walks::instr::InstrLocId;
-}
-
-pub mod module {
-    pub use walrus_meaning::module::Module;
-}

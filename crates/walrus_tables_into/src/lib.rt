@@ -18,10 +18,6 @@ pub mod section_values {
     pub use walrus_section_values::{Global, GlobalOrigin, Limits};
 }
 
-pub mod sections {
-    pub use walrus_sections::Sections;
-}
-
 pub mod sections_into {
     pub use walrus_sections_into::{
         IntoError, add_exports, add_imports, add_memories, add_segments, add_tags, number_elements,
@@ -38,27 +34,13 @@ pub mod sections_into {
         };
     }
 
-    pub mod index_maps {
-        pub use walrus_sections_into::index_maps::IndicesToIds;
-    }
-
     pub mod known_sections {
         pub use walrus_sections_into::known_sections::{
-            Chunk, Custom, Element, ElementItems, Mode, Sections, Table, TableType,
+            Element, ElementItems, Mode, Table, TableType,
         };
     }
 
     pub mod module_items {
         pub use walrus_sections_into::module_items::{ElementItems, GlobalKind};
-    }
-
-    pub mod operators {
-        pub mod immediate_forms {
-            pub mod reader {
-                pub mod features {
-                    pub use walrus_sections_into::operators::immediate_forms::reader::features::WasmFeatures;
-                }
-            }
-        }
     }
 }

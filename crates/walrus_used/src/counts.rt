@@ -13,7 +13,7 @@ use crate::segments::element_segments;
 use crate::sweep::{Check, Reached, reach_asking};
 use std::alloc::{AllocError, Global};
 use walrus_marks::Claims;
-use walrus_references::module::Module;
+use walrus_module::Module;
 use walrus_roots::Item;
 use walrus_types::ModuleTypes;
 

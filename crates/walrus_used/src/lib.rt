@@ -15,19 +15,16 @@ pub use sweep::{Check, Reached};
 
 // Passed on to crates above, which then list this one alone.
 pub mod collections {
-    pub use walrus_references::collections::{
-        Collection, ModuleData, ModuleElements, ModuleFunctions, ModuleImports,
+    pub use walrus_module::collections::{
+        Collection, ModuleData, ModuleElements, ModuleFunctions, ModuleGlobals, ModuleImports,
+        ModuleMemories, ModuleTables, ModuleTags,
     };
 }
 
 pub mod local_function {
-    pub use walrus_references::local_function::LocalFunction;
+    pub use walrus_module::local_function::LocalFunction;
 }
 
 pub mod module {
-    pub use walrus_references::module::Module;
-}
-
-pub mod module_items {
-    pub use walrus_references::module_items::{DataKind, ElementItems, ElementKind};
+    pub use walrus_module::Module;
 }

@@ -24,9 +24,9 @@ use walrus_arena::{
 };
 use walrus_items::ModuleLocals;
 use walrus_marks::Marks;
-use walrus_references::collections::{ModuleData, ModuleElements, ModuleGlobals, ModuleTags};
-use walrus_references::module::Module;
-use walrus_references::module_items::FunctionKind;
+use walrus_module::Module;
+use walrus_module::collections::{ModuleData, ModuleElements, ModuleGlobals, ModuleTags};
+use walrus_module::module_items::FunctionKind;
 use walrus_roots::Item;
 use walrus_types::ModuleTypes;
 use wasm_formats::Space;

@@ -13,7 +13,7 @@ use walrus_arena::{FunctionId, TypeId};
 use walrus_forms::{HeapType, RefType, ValType};
 use walrus_instr::ConstExpr;
 use walrus_marks::Marks;
-use walrus_references::module_items::{
+use walrus_module::module_items::{
     DataKind, Element, ElementItems, ElementKind, Global, GlobalKind, Table,
 };
 use walrus_roots::Item;

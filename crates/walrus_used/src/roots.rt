@@ -12,9 +12,9 @@ ghost use Rattle.walrus_arena.specs.Arena.{item_at, next_id};
 use std::alloc::AllocError;
 use walrus_arena::{DataId, DataSpace, ElementId, ExportId, ExportSpace, FunctionId, Id, TableId};
 use walrus_marks::Marks;
-use walrus_references::collections::{Collection, ModuleTables};
-use walrus_references::module::Module;
-use walrus_references::module_items::{Data, DataKind, ElementKind, Export, ExportItem};
+use walrus_module::Module;
+use walrus_module::collections::{Collection, ModuleTables};
+use walrus_module::module_items::{Data, DataKind, ElementKind, Export, ExportItem};
 use walrus_roots::Item;
 use wasm_formats::Space;
 

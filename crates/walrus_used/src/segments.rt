@@ -13,9 +13,9 @@ use crate::roots::list_rooted;
 use std::alloc::{AllocError, Global};
 use walrus_arena::{DataSpace, ElementId, ElementSpace, IdHashSet};
 use walrus_marks::Marks;
-use walrus_references::collections::{ModuleData, ModuleElements};
-use walrus_references::module::Module;
-use walrus_references::module_items::ElementKind;
+use walrus_module::Module;
+use walrus_module::collections::{ModuleData, ModuleElements};
+use walrus_module::module_items::ElementKind;
 use walrus_roots::Item;
 use wasm_formats::Space;
 

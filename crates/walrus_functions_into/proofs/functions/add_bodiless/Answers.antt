@@ -1,4 +1,4 @@
-use Rattle.walrus_locations.specs.walrus_collections.walrus_module_items.declared.function.FunctionKind.TheVariants as kinds
+use Rattle.walrus_collections.specs.walrus_module_items.declared.function.FunctionKind.TheVariants as kinds
 use Rattle.walrus_functions_into.proofs.AddLemmas.{replaced}
 use Rattle.walrus_functions_into.proofs.functions.add_bodiless.Goals as goal
 

@@ -1,6 +1,6 @@
 use Rattle.std.proofs.Common.{◌∙◌, sym, ap}
 use Rattle.walrus_arena.specs.Arena.{item_at}
-use Rattle.walrus_linked.specs.walrus_module.Parts.{parts}
+use Rattle.walrus_used.specs.walrus_module.Parts.{parts}
 use Rattle.walrus_refusals.proofs.PastLemmas.{more_past}
 use Rattle.walrus_refusals.proofs.claims.past_claims.Goals as goal
 

@@ -1,5 +1,5 @@
 use Rattle.std.proofs.Common.{◌≡◌, length}
-use Rattle.walrus_linked.specs.walrus_module.Parts.{parts}
+use Rattle.walrus_used.specs.walrus_module.Parts.{parts}
 use Rattle.walrus_refusals.specs.Checks.{ArePast}
 use Rattle.walrus_refusals.proofs.claims.past_claims.Given as goal
 

@@ -1,6 +1,6 @@
 use Rattle.std.proofs.Common.{◌∙◌, sym, ap}
 use Rattle.std.specs.Prelude.{is_some}
-use Rattle.walrus_linked.specs.walrus_module.Parts.{parts}
+use Rattle.walrus_used.specs.walrus_module.Parts.{parts}
 use Rattle.walrus_refusals.proofs.SoundLemmas.{well_if}
 use Rattle.walrus_refusals.proofs.sound.are_well.Goals as goal
 

@@ -1,7 +1,7 @@
 use Rattle.std.proofs.Common.{None, MatchOption, ◌≡◌, ◌∙◌, refl, sym, inr}
 use Rattle.std.proofs.lemmas.Result.{IfOk-weaker}
-use Rattle.walrus_linked.specs.walrus_module.Parts.{parts}
-use Rattle.walrus_linked.specs.walrus_module.Items.{Lives}
+use Rattle.walrus_used.specs.walrus_module.Parts.{parts}
+use Rattle.walrus_used.specs.walrus_module.Items.{Lives}
 use Rattle.walrus_refusals.specs.Checks.{FailsIn, HoldsMet, HoldsOrFails}
 use Rattle.walrus_refusals.specs.Sound.{Stands}
 use Rattle.walrus_refusals.specs.Written.{StaysInGroup}

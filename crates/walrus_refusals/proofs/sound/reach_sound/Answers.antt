@@ -1,5 +1,5 @@
 use Rattle.std.proofs.Common.{refl, sym, subst}
-use Rattle.walrus_linked.specs.walrus_module.Parts.{parts}
+use Rattle.walrus_used.specs.walrus_module.Parts.{parts}
 use Rattle.walrus_refusals.specs.Checks.{AreClaims}
 use Rattle.walrus_refusals.proofs.SoundLemmas.{all_inexact, all_sound, all_stand, all_unshared, are_linked, are_trees, dead_answered, formed, has_form, not_linked, not_trees, stood, unformed, well_sound}
 use Rattle.walrus_refusals.proofs.sound.reach_sound.Goals as goal

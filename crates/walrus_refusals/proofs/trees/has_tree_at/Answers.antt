@@ -1,5 +1,5 @@
 use Rattle.std.proofs.Common.{Decides, IfOk, MatchOption, Option, sym, subst}
-use Rattle.walrus_linked.specs.walrus_module_items.declared.function.Function.{Function}
+use Rattle.walrus_used.specs.walrus_module.walrus_module_items.declared.function.Function.{Function}
 use Rattle.walrus_used.specs.walrus_references.Refused.{HasTree}
 use Rattle.walrus_refusals.proofs.trees.has_tree_at.Goals as goal
 

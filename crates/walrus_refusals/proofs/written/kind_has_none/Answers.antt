@@ -1,7 +1,7 @@
 use Rattle.std.proofs.Common.{◌∙◌, Decides, IfOk, List, sym, ap, subst}
 use Rattle.walrus_instr.specs.declared.seq.InstrSeq.{InstrSeq}
 use Rattle.walrus_builder.specs.Functions.{seqs_of}
-use Rattle.walrus_linked.specs.walrus_module_items.declared.function.FunctionKind.{FunctionKind}
+use Rattle.walrus_used.specs.walrus_module.walrus_module_items.declared.function.FunctionKind.{FunctionKind}
 use Rattle.walrus_refusals.specs.Written.{BodyHasNone, KindHasNone}
 use Rattle.walrus_refusals.proofs.written.kind_has_none.Goals as goal
 

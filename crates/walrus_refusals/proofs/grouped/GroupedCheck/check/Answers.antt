@@ -1,6 +1,6 @@
 use Rattle.std.proofs.Common.{Decides, IfOk, ℕ, sym, subst}
 use Rattle.wasm_formats.specs.declared.fault.Space.{Space}
-use Rattle.walrus_linked.specs.walrus_module.Parts.{parts}
+use Rattle.walrus_used.specs.walrus_module.Parts.{parts}
 use Rattle.walrus_refusals.specs.Written.{NamesNoLater, StaysIn}
 use Rattle.walrus_refusals.proofs.grouped.GroupedCheck.check.Goals as goal
 

@@ -1,8 +1,8 @@
 use Rattle.std.proofs.Common.{Decides, IfOk, MatchOption, ℕ, sym, subst}
 use Rattle.wasm_formats.specs.declared.fault.Space.{Space}
-use Rattle.walrus_linked.specs.walrus_module.Parts.{parts}
+use Rattle.walrus_used.specs.walrus_module.Parts.{parts}
 use Rattle.walrus_arena.specs.Arena.{item_at}
-use Rattle.walrus_linked.specs.walrus_module_items.declared.function.Function.{Function}
+use Rattle.walrus_used.specs.walrus_module.walrus_module_items.declared.function.Function.{Function}
 use Rattle.walrus_refusals.specs.Written.{HasNoExactIn, KindHasNone}
 use Rattle.walrus_refusals.proofs.written.InexactCheck.check.Goals as goal
 
