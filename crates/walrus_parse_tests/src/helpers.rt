@@ -5,7 +5,7 @@ use crate::names::are_called;
 use std::alloc::Global;
 use walrus_config::ModuleConfig;
 use walrus_errors::{ModuleError, Result};
-use walrus_parse::module::Module;
+use walrus_module::Module;
 use walrus_parse::{FromBuffer, Parse};
 
 /// The call that reads a file.

@@ -4,7 +4,7 @@ use crate::files::{LOCALS, NAMED};
 use crate::helpers::{Ask, Call, has, read_by};
 use std::alloc::Global;
 use walrus_config::ModuleConfig;
-use walrus_parse::module::Module;
+use walrus_module::Module;
 
 // A name, empty where there is none.
 fn text(name: &Option<String>) -> &str {
