@@ -4,7 +4,7 @@
     bench/rows.py
 
 The second model (bench/model.py) says where and why a prefix is refused; one in which nothing is kept is answered by the header alone. The
-three in which something is kept stand below, by hand. A whole module that a row has refused has to be refused so by the model, too.
+three in which something is kept stand below, by hand. A whole module that a row has refused in its bytes has to be refused so by the model, too.
 """
 import itertools
 import os
@@ -43,7 +43,7 @@ def told(row):
     number = re.match("row ([0-9]+)", row[0])
     data = b"".join(int(count) * bytes.fromhex(part) for count, part in (it.split() for it in words(row, "bytes")))
     options = words(row, "with")[0].split()
-    for fault in words(row, "refused"):
+    for fault in (it for it in words(row, "refused") if it.startswith("error at ")):
         if answer(data, options) != (f"refused {fault}",):
             raise SystemExit(f"{row[0]}: {answer(data, options)}")
     if int(number[1]) > 17:
@@ -57,8 +57,9 @@ def told(row):
 def main():
     with open(FILE) as file:
         head, *rows = [part.split("\n") for part in file.read().rstrip("\n").split("\n\n")]
+    rows = [*map(told, rows)]
     with open(FILE, "w") as file:
-        file.write("\n\n".join("\n".join(part) for part in [head, *map(told, rows)]) + "\n")
+        file.write("\n\n".join("\n".join(part) for part in [head, *rows]) + "\n")
 
 
 main()

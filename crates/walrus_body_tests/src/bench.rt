@@ -7,10 +7,10 @@ use walrus_index_maps::IdsToIndices;
 use walrus_items::ModuleLocals;
 use walrus_types::{ModuleTypes, ValType};
 
-/// What a row begins with: nothing is written.
+/// What a row begins with: nothing is written, and places are kept.
 #[derive(Drop)]
 pub(crate) struct Bench {
-    /// Numbers of the first function, memory, global, tag and data segment, or none.
+    /// Numbers of the first function, memory, global, tag and data segment.
     pub(crate) maps: IdsToIndices,
     /// No locals.
     pub(crate) locals: ModuleLocals,
@@ -30,14 +30,6 @@ fn numbers(alloc: Global) -> Result<IdsToIndices, AllocError> {
     Ok(maps)
 }
 
-fn maps(alloc: Global, are_numbered: bool) -> Result<IdsToIndices, AllocError> {
-    if are_numbered {
-        numbers(alloc)
-    } else {
-        Ok(IdsToIndices::new(alloc))
-    }
-}
-
 fn types(alloc: Global) -> Result<ModuleTypes, AllocError> {
     let mut types = ModuleTypes::new(alloc);
     types.add(&[], &[])?;
@@ -46,19 +38,14 @@ fn types(alloc: Global) -> Result<ModuleTypes, AllocError> {
 }
 
 impl Bench {
-    /// One where these have numbers, and places are kept, or not.
-    pub(crate) fn new(
-        alloc: Global,
-        are_numbered: bool,
-        keeps_places: bool,
-    ) -> Result<Self, AllocError> {
-        let maps = maps(alloc, are_numbered)?;
+    pub(crate) fn new(alloc: Global) -> Result<Self, AllocError> {
+        let maps = numbers(alloc)?;
         let types = types(alloc)?;
         Ok(Bench {
             maps,
             locals: ModuleLocals::new(alloc),
             types,
-            out: Output::new(alloc, keeps_places),
+            out: Output::new(alloc, true),
         })
     }
 }

@@ -1,9 +1,8 @@
-//! What words of rows stand for: ids, block types, and the items of lists.
+//! What words of rows stand for: ids and block types.
 
-use crate::words::{cut, is_none, lower, number, place};
-use std::alloc::{AllocError, Global};
-use walrus_arena::{Id, LocalId};
-use walrus_instr::{InstrSeqType, LegacyCatch, TryTableCatch};
+use test_words::{is_none, lower, number};
+use walrus_arena::Id;
+use walrus_instr::InstrSeqType;
 use walrus_types::ValType;
 
 /// A block without parameters and results.
@@ -23,66 +22,4 @@ pub(crate) fn block_type(word: &[u8]) -> InstrSeqType {
     } else {
         InstrSeqType::MultiValue(id(number(word)))
     }
-}
-
-/// What there are lists of.
-pub(crate) trait Listed: Copy {
-    /// The item of a word.
-    fn of(word: &[u8]) -> Self;
-}
-
-impl Listed for LocalId {
-    fn of(word: &[u8]) -> Self {
-        id(number(word))
-    }
-}
-
-impl Listed for LegacyCatch {
-    fn of(word: &[u8]) -> Self {
-        let (kind, rest) = cut(word, b':');
-        let (first, second) = cut(rest, b':');
-        match place("catch all".as_bytes(), kind) {
-            0 => LegacyCatch::Catch {
-                tag: id(number(first)),
-                handler: id(number(second)),
-            },
-            1 => LegacyCatch::CatchAll {
-                handler: id(number(first)),
-            },
-            _ => LegacyCatch::Delegate {
-                relative_depth: lower(number(first)),
-            },
-        }
-    }
-}
-
-impl Listed for TryTableCatch {
-    fn of(word: &[u8]) -> Self {
-        let (kind, rest) = cut(word, b':');
-        let (first, second) = cut(rest, b':');
-        match place("catch all".as_bytes(), kind) {
-            0 => TryTableCatch::Catch {
-                tag: id(number(first)),
-                label: id(number(second)),
-            },
-            _ => TryTableCatch::CatchAll {
-                label: id(number(first)),
-            },
-        }
-    }
-}
-
-/// The items of the words between commas.
-pub(crate) fn list<T: Listed>(alloc: Global, text: &[u8]) -> Result<Vec<T>, AllocError> {
-    let mut items = Vec::new(alloc);
-    let mut rest = text;
-    for _ in 0..text.len() {
-        if rest.is_empty() {
-            return Ok(items);
-        }
-        let (word, more) = cut(rest, b',');
-        items.push(T::of(word))?;
-        rest = more;
-    }
-    Ok(items)
 }

@@ -2,8 +2,8 @@
 
 use crate::forms::{block_type, id};
 use crate::module::TestModule;
-use crate::words::cut;
 use std::alloc::Global;
+use test_words::cut;
 use walrus_body_env::BodyError;
 use walrus_handler_types::tree::check_tree;
 use walrus_handler_types::{give_types, handlers};

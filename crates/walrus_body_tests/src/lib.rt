@@ -1,5 +1,4 @@
-//! Tests of bodies that are read, in a module of their own, and written again, of bodies and locals that are written, of frames, and of
-//! operators, each call with ample memory.
+//! Tests of bodies that are read, in a module of their own, and written again, and of operators, each call that takes memory with ample memory.
 #![tactic(auto)]
 
 #[cfg(test)]
@@ -7,15 +6,9 @@ mod again;
 #[cfg(test)]
 mod bench;
 #[cfg(test)]
-mod built;
-#[cfg(test)]
 mod forms;
 #[cfg(test)]
-mod frames;
-#[cfg(test)]
 mod handlers;
-#[cfg(test)]
-mod locals;
 #[cfg(test)]
 mod module;
 #[cfg(test)]
@@ -28,5 +21,3 @@ mod rows;
 mod table;
 #[cfg(test)]
 mod validators;
-#[cfg(test)]
-mod words;

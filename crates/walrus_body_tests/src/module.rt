@@ -90,13 +90,15 @@ impl<'a> BodyEnv for TestModule<'a> {
     }
 }
 
-/// Three types, three functions, a tag and a data segment.
+/// Three types, three functions, a memory, a global, a tag and a data segment.
 pub(crate) fn indices(alloc: Global) -> Result<IndicesToIds, AllocError> {
     let mut indices = IndicesToIds::new(alloc);
     for number in 0..3u64 {
         indices.push_type(id(number))?;
         indices.push_func(id(number))?;
     }
+    indices.push_memory(id(0))?;
+    indices.push_global(id(0))?;
     indices.push_tag(id(0))?;
     indices.push_data(id(0))?;
     Ok(indices)

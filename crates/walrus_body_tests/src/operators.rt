@@ -1,6 +1,7 @@
 //! Tests of operators, of the maps of indices and ids, and of the pairing of operators with instructions.
 
 mod asks;
+mod bytes;
 mod codes;
 mod faults;
 mod maps;
@@ -10,4 +11,3 @@ mod pairing;
 mod rows;
 mod table;
 mod view;
-mod words;

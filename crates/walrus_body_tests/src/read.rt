@@ -5,8 +5,8 @@ use crate::forms::{EMPTY, id};
 use crate::handlers::are_given;
 use crate::module::{TestModule, indices};
 use crate::validators::Refuser;
-use crate::words::{are_bytes, cut, is_none, lower, number, push_bytes};
 use std::alloc::{AllocError, Global};
+use test_words::{are_bytes, cut, is_none, lower, number, push_bytes};
 use walrus_arena::{DataId, LocalId};
 use walrus_body_env::{BodyEnv, BodyError};
 use walrus_handler_types::AnyHandler;
@@ -121,6 +121,7 @@ fn is_written(
 ) -> Result<bool, BodyError> {
     let (written, rest) = cut(wanted, b' ');
     let (places, segment) = cut(rest, b' ');
+    function.size(alloc)?;
     let facts = function.emit_facts(alloc)?;
     write(alloc, function, facts.used_locals.as_slice(), bench)?;
     let out = bench.out.bytes.as_slice();

@@ -1,37 +1,15 @@
 //! All rows.
 
 use crate::bench::Bench;
+use crate::read;
 use crate::rows::ROWS;
-use crate::words::{cut, place};
-use crate::{built, frames, locals, read};
 use std::alloc::{AllocError, Global};
-
-const KINDS: &str = "built unplaced unnumbered locals";
-
-fn is_so(
-    alloc: Global,
-    bench: &mut Bench,
-    kind: &[u8],
-    form: u32,
-    row: &[u8],
-) -> Result<bool, AllocError> {
-    if form < 3 {
-        built::stands(alloc, row, bench)
-    } else if form == 3 {
-        locals::stands(alloc, row, bench)
-    } else {
-        read::stands(alloc, kind, row, bench)
-    }
-}
+use test_words::cut;
 
 fn stands(alloc: Global, row: &[u8]) -> Result<bool, AllocError> {
-    let (kind, rest) = cut(row, b' ');
-    if kind == "frames".as_bytes() {
-        return frames::stand(alloc, rest);
-    }
-    let form = place(KINDS.as_bytes(), kind);
-    let mut bench = Bench::new(alloc, form != 2, form != 1)?;
-    is_so(alloc, &mut bench, kind, form, rest)
+    let (setting, rest) = cut(row, b' ');
+    let mut bench = Bench::new(alloc)?;
+    read::stands(alloc, setting, rest, &mut bench)
 }
 
 fn is_remark(row: &[u8]) -> bool {
@@ -61,5 +39,5 @@ fn stand(alloc: Global) -> Result<u32, AllocError> {
 
 #[test]
 fn rows(rt: HostRuntime) {
-    assert!(rt; stand(rt.alloc()) == Ok(71));
+    assert!(rt; stand(rt.alloc()) == Ok(44));
 }

@@ -1,33 +1,10 @@
-//! Tests of instructions, walks, trees and the builder, each call with ample memory.
+//! Tests of what bytes of values and types are read as, of the table of types, and of instructions, walks, trees and the builder, each call that takes
+//! memory with ample memory. Most are rows of a text: words say what is done and what is to come of it.
 #![tactic(auto)]
 
 #[cfg(test)]
-mod calls;
+mod bodies;
 #[cfg(test)]
-mod constants;
+mod readers;
 #[cfg(test)]
-mod forms;
-#[cfg(test)]
-mod instrs;
-#[cfg(test)]
-mod laws;
-#[cfg(test)]
-mod others;
-#[cfg(test)]
-mod rows;
-#[cfg(test)]
-mod shapes;
-#[cfg(test)]
-mod small;
-#[cfg(test)]
-mod steps;
-#[cfg(test)]
-mod table;
-#[cfg(test)]
-mod types;
-#[cfg(test)]
-mod view;
-#[cfg(test)]
-mod walks;
-#[cfg(test)]
-mod words;
+mod tables;

@@ -1,16 +1,16 @@
 //! What a callback is handed of a file, and what it answers.
 
+use crate::files::{EMPTY, NOP, RETURNS};
 use crate::helpers::{Ask, has, refused};
 use crate::locations::later;
-use crate::read::{EMPTY, NOP, RETURNS};
 use std::alloc::Global;
 use walrus_config::ModuleConfig;
 use walrus_counts::count;
 use walrus_errors::{ModuleError, Result};
 use walrus_index_maps::IndicesToIds;
 use walrus_instr::InstrLocId;
+use walrus_module::Module;
 use walrus_parse::Parse;
-use walrus_parse::module::Module;
 
 // Refuses a module of another number of functions, and one with other indices than 0, 1 and on for them.
 fn check(alloc: Global, module: &Module<()>, indices: &IndicesToIds, functions: u32) -> Result<()> {

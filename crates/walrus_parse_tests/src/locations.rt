@@ -1,15 +1,15 @@
 //! What stands in the place of locations. They count from the count of bodies in the file's code section.
 
 use crate::callback::{Act, read_with};
+use crate::files::{CALLS, IF};
 use crate::helpers::{Ask, Call, has, read_by, refused};
-use crate::read::{CALLS, IF};
 use std::alloc::{AllocError, Global};
 use walrus_config::ModuleConfig;
 use walrus_errors::Result;
 use walrus_index_maps::IndicesToIds;
 use walrus_instr::{InstrLocId, InstrSeq};
+use walrus_module::Module;
 use walrus_parse::Parse;
-use walrus_parse::module::Module;
 
 // The numbers of the locations of a sequence: those of its instructions, then that of its end.
 fn push_seq(numbers: &mut Vec<u32>, seq: &InstrSeq) -> std::result::Result<(), AllocError> {

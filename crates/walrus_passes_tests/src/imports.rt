@@ -5,9 +5,9 @@ use walrus_arena::{FunctionId, GlobalId, MemoryId, TableId, TypeId};
 use walrus_builder::FunctionBuilder;
 use walrus_forms::{RefType, ValType};
 use walrus_instr::{ConstExpr, Value};
+use walrus_module::Module;
+use walrus_module::local_function::LocalFunction;
 use walrus_module_items::{DataKind, ElementItems, ElementKind};
-use walrus_passes::local_function::LocalFunction;
-use walrus_passes::module::Module;
 
 // An import in each space, of which the function and the tag have this type.
 fn add_imports(module: &mut Module, ty: TypeId) -> Result<(), AllocError> {
@@ -30,9 +30,10 @@ fn add_caller(alloc: Global, module: &mut Module) -> Result<FunctionId, AllocErr
 
 // An item of its own in each other space.
 fn add_own(module: &mut Module, ty: TypeId) -> Result<(), AllocError> {
+    let init = Some(ConstExpr::RefFunc(FunctionId::from_index(0)));
     module
         .tables
-        .add_local(false, 1, Some(3), RefType::FUNCREF)?;
+        .add_local_with_init(false, 1, Some(3), RefType::FUNCREF, init)?;
     module.memories.add_local(false, false, 1, None, None)?;
     module
         .globals
@@ -100,9 +101,10 @@ pub(crate) fn are_used_live(module: &Module) -> bool {
 }
 
 // A second gc deletes nothing.
-const STEPS: [Step; 6] = [
+const STEPS: [Step; 7] = [
     Step::EachSpace,
     Step::AllLive,
+    Step::Copied,
     Step::Gc(0),
     Step::UsedLive,
     Step::Gc(0),

@@ -1,20 +1,22 @@
 //! Small modules, made by steps, and how many items they have.
-use crate::asked::{keep, refuse, uses};
+use crate::copies::are_copied;
 use crate::imports::{are_all_live, are_used_live, fill};
+use crate::own::{keep, refuse};
+use crate::replaced::{exports_are_replaced, import_is_replaced};
 use std::alloc::{AllocError, Global};
 use walrus_arena::{
     DataId, ExportId, FunctionId, GlobalId, Id, ImportId, InstrSeqId, LocalId, MemoryId, TableId,
     TypeId, UntypedCustomSectionId,
 };
-use walrus_builder::{FunctionBuilder, check_nesting};
+use walrus_builder::FunctionBuilder;
 use walrus_config::ModuleConfig;
 use walrus_errors::{Form, ModuleError, Space};
 use walrus_forms::{FieldType, HeapType, RefType, StorageType, ValType};
 use walrus_instr::{ConstExpr, Instr, InstrSeqType, Value};
+use walrus_module::Module;
+use walrus_module::collections::Collection;
+use walrus_module::local_function::LocalFunction;
 use walrus_module_items::{DataKind, ElementItems, ElementKind, FunctionKind};
-use walrus_passes::collections::Collection;
-use walrus_passes::local_function::LocalFunction;
-use walrus_passes::module::Module;
 use walrus_passes::{Used, gc};
 use walrus_sections::SectionFault;
 
@@ -81,14 +83,15 @@ pub(crate) enum Step {
     /// The function is to be used, or not.
     Used(usize),
     Unused(usize),
-    /// The import `mod`, `dummy` is to be found by its names and by its function.
-    Found(usize),
-    /// The body is not to be nested.
-    NotNested(usize),
     /// Imported items and own ones in each space. All of them are to live, or those alone that are used.
     EachSpace,
     AllLive,
     UsedLive,
+    /// Each of them is to be copied.
+    Copied,
+    /// Functions are put in the place of exported ones, and of an imported one, of a new module.
+    ExportsReplaced,
+    ImportReplaced,
     /// A gc, and what is used before it, which both answer this: 0 for `Ok`, 1 for `NotLinked`, 2 for `NoTree`, 3 for a dead function, 4 for a dead type,
     /// 5 for a shared global, 6 for an exact type, 7 for a section that refuses, 8 for want of memory.
     Gc(usize),
@@ -253,22 +256,11 @@ fn answers(alloc: Global, module: &mut Module, wanted: usize) -> bool {
         && answer(gc::run(alloc, module).err()) == wanted
 }
 
-// Whether the import is found by its names, as one of this function, and by the function.
-fn finds(module: &Module, function: FunctionId) -> bool {
-    module.imports.get_func("mod", "dummy") == Ok(function)
-        && module.imports.get_imported_func(function).is_some()
-}
-
-// Whether the function has a body that isn't nested.
-fn is_not_nested(alloc: Global, module: &Module, function: FunctionId) -> Result<bool, AllocError> {
-    if !module.funcs.contains(function) {
-        return Ok(false);
-    }
-    match &module.funcs.get(function).kind {
-        FunctionKind::Local(local) => {
-            Ok(!check_nesting(alloc, local.builder(), local.entry_block())?)
-        }
-        FunctionKind::Import(_) | FunctionKind::Uninitialized(_) => Ok(false),
+// Whether the function is used.
+fn uses(alloc: Global, module: &Module, function: FunctionId) -> bool {
+    match Used::new(alloc, module) {
+        Ok(used) => used.funcs.contains(&function),
+        Err(_) => false,
     }
 }
 
@@ -348,9 +340,18 @@ fn add(alloc: Global, module: &mut Module, step: Step) -> Result<(), AllocError>
         Step::Memory => add_memory(module),
         Step::Data => add_data(alloc, module),
         Step::Local(ty) => add_local(module, ty),
-        Step::Keep(index) => keep(alloc, module, function(index)),
-        Step::Refuse => refuse(alloc, module, SectionFault::Refused),
-        Step::Short => refuse(alloc, module, SectionFault::Memory),
+        Step::Keep(index) => {
+            keep(alloc, &mut module.customs, function(index))?;
+            Ok(())
+        }
+        Step::Refuse => {
+            refuse(alloc, &mut module.customs, SectionFault::Refused)?;
+            Ok(())
+        }
+        Step::Short => {
+            refuse(alloc, &mut module.customs, SectionFault::Memory)?;
+            Ok(())
+        }
         Step::Segment { table, function } => add_segment(alloc, module, active(table), function),
         Step::Declared(function) => add_segment(alloc, module, ElementKind::Declared, function),
         _ => Ok(()),
@@ -392,9 +393,10 @@ fn take(alloc: Global, module: &mut Module, step: Step) -> Result<bool, AllocErr
         Step::NoMemory(index) => return Ok(!module.memories.contains(memory(index))),
         Step::Used(index) => return Ok(uses(alloc, module, function(index))),
         Step::Unused(index) => return Ok(!uses(alloc, module, function(index))),
-        Step::Found(index) => return Ok(finds(module, function(index))),
-        Step::NotNested(index) => return is_not_nested(alloc, module, function(index)),
         Step::AllLive => return Ok(are_all_live(module)),
+        Step::Copied => return are_copied(module),
+        Step::ExportsReplaced => return exports_are_replaced(alloc, module),
+        Step::ImportReplaced => return import_is_replaced(module),
         Step::UsedLive => return Ok(are_used_live(module)),
         Step::EachSpace => fill(alloc, module)?,
         Step::Uninitialize(function) => uninitialize(module, function),

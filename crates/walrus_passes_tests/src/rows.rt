@@ -2,7 +2,7 @@
 use crate::modules::{Step, leave};
 
 // Steps, and how many types, functions, tables, elements and imports they leave.
-const ROWS: [(&[Step], [usize; 5]); 24] = [
+const ROWS: [(&[Step], [usize; 5]); 26] = [
     // A table that is exported keeps its segment, with the function and its type.
     (
         &[
@@ -90,7 +90,6 @@ const ROWS: [(&[Step], [usize; 5]); 24] = [
             Step::Function,
             Step::ExportFunction(0),
             Step::Nest(0),
-            Step::NotNested(0),
             Step::Gc(2),
             Step::DeleteExport(0),
             Step::Gc(0),
@@ -103,7 +102,6 @@ const ROWS: [(&[Step], [usize; 5]); 24] = [
             Step::Function,
             Step::ExportFunction(0),
             Step::ImportOf(0),
-            Step::Found(0),
             Step::Gc(1),
             Step::DeleteImport(0),
             Step::Gc(0),
@@ -331,6 +329,9 @@ const ROWS: [(&[Step], [usize; 5]); 24] = [
         ],
         [1, 1, 0, 0, 0],
     ),
+    // Functions in the place of exported ones, and of an imported one.
+    (&[Step::ExportsReplaced], [1, 3, 0, 0, 0]),
+    (&[Step::ImportReplaced], [1, 1, 0, 0, 0]),
 ];
 
 #[test]

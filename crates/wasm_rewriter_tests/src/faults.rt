@@ -1,5 +1,5 @@
 //! What faults say, and where they stand.
-use crate::shown::are_shown;
+use test_words::are_shown;
 use wasm_rewriter::{Fault, Form, Limited, Space};
 
 fn stand_at(faults: &[Fault], offset: Option<u64>) -> bool {

@@ -1,4 +1,5 @@
-//! Tests of `wasm_rewriter`, of its devices and of its program, against examples that were worked by hand.
+//! Tests of `wasm_rewriter`, of its devices and of its program, and of the program `walrus_inspect`. What modules are rewritten to, and why they are
+//! refused, is asked by the program `rows`.
 #![tactic(auto)]
 
 #[cfg(test)]
@@ -6,24 +7,12 @@ mod devices;
 #[cfg(test)]
 mod faults;
 #[cfg(test)]
-mod limits;
+mod inspect;
 #[cfg(test)]
-mod pieces;
+mod modules;
 #[cfg(test)]
 mod program;
 #[cfg(test)]
-mod refusing;
-#[cfg(test)]
-mod rewriting;
-#[cfg(test)]
-mod rows;
-#[cfg(test)]
 mod runs;
 #[cfg(test)]
-mod shown;
-#[cfg(test)]
 mod standard;
-#[cfg(test)]
-mod table;
-#[cfg(test)]
-mod words;

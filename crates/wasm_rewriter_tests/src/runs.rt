@@ -1,118 +1,126 @@
-//! Where devices fail, and what stands then.
-use crate::devices::sink_of;
-use crate::pieces::with_places;
-use crate::words::{Bytes, bytes_of};
+//! Where devices fail in a run, and what stands then.
+
+use crate::modules::{INPUT, OUTPUT, PLACE, with_places};
 use std::alloc::Global;
 use wasm_rewriter::{Fault, MemorySink, MemorySource, SinkFail, Space, Summary, run};
 
 // Where the devices of a run fail: the reader before this read, and the two writers.
 type Failing = (Option<u64>, SinkFail, SinkFail);
 
-const NOWHERE: Failing = (None, SinkFail::Never, SinkFail::Never);
-
-// Whether a run answers this, and both sinks took these bytes.
+// Whether a run answers this, and both sinks took the first so many bytes of what is written and of the line of its place.
 fn is_run(
     alloc: Global,
     source: &mut MemorySource<'_>,
     (sink, places): (&mut MemorySink, &mut MemorySink),
     answer: Result<Summary, Fault>,
-    (bytes, lines): (&[u8], &[u8]),
+    (bytes, line): (usize, usize),
 ) -> bool {
     let found = run(alloc, source, sink, places, &with_places());
-    found == answer && sink.bytes() == bytes && places.bytes() == lines
+    found == answer
+        && sink.bytes().len() == bytes
+        && OUTPUT.starts_with(sink.bytes())
+        && places.bytes().len() == line
+        && PLACE.starts_with(places.bytes())
 }
 
 // The same of a run on these bytes whose devices fail so.
 fn runs(
     alloc: Global,
     input: &[u8],
-    failing: Failing,
+    (failing_read, fail, places_fail): Failing,
     answer: Result<Summary, Fault>,
-    taken: (&[u8], &[u8]),
+    taken: (usize, usize),
 ) -> bool {
-    let (failing_read, fail, places_fail) = failing;
-    let Ok(mut sink) = sink_of(alloc, 40, fail) else {
+    let Ok(mut sink) = MemorySink::new(alloc, 40, fail) else {
         return false;
     };
-    let Ok(mut places) = sink_of(alloc, 8, places_fail) else {
+    let Ok(mut places) = MemorySink::new(alloc, 8, places_fail) else {
         return false;
     };
     let mut source = MemorySource::new(input, failing_read);
     is_run(alloc, &mut source, (&mut sink, &mut places), answer, taken)
 }
 
-// Whether a run on a function of one `nop` answers this, and the sinks took so many bytes of what is written and of the line of
-// its place.
-fn leaves(
-    alloc: Global,
-    failing: Failing,
-    answer: Result<Summary, Fault>,
-    (bytes, line): (usize, usize),
-) -> bool {
-    let input = bytes_of(b"header type function export nop");
-    let output = bytes_of(b"header type function export code");
-    let place = Bytes::of(b"4 3\n");
-    let taken = (output.first(bytes), place.first(line));
-    runs(alloc, input.as_slice(), failing, answer, taken)
+const DONE: Result<Summary, Fault> = Ok(Summary {
+    bytes: 31,
+    places: 1,
+});
+
+const REFUSED: Result<Summary, Fault> = Err(Fault::Index {
+    space: Space::Function,
+    offset: 14,
+});
+
+// An export of a function that isn't there.
+const NO_FUNCTION: &[u8] = b"\0asm\x01\0\0\0\x07\x05\x01\x01f\0\0";
+
+fn unwritten(written: u64) -> Result<Summary, Fault> {
+    Err(Fault::WriterFault { written })
 }
 
-fn is_counted(alloc: Global) -> bool {
-    let answer = Ok(Summary {
-        bytes: 31,
-        places: 1,
-    });
-    leaves(alloc, NOWHERE, answer, (31, 4))
+fn unplaced(written: u64) -> Result<Summary, Fault> {
+    Err(Fault::PlacesFault { written })
 }
 
-// A writer that fails has the first bytes.
-fn is_cut(alloc: Global, fail: SinkFail, written: u64) -> bool {
-    let failing = (None, fail, SinkFail::Never);
-    let answer = Err(Fault::WriterFault { written });
-    leaves(alloc, failing, answer, (written as usize, 0))
-}
-
-// A writer of places that fails has the first of the lines, behind all bytes.
-fn is_listing_cut(alloc: Global, fail: SinkFail, written: u64) -> bool {
-    let failing = (None, SinkFail::Never, fail);
-    let answer = Err(Fault::PlacesFault { written });
-    leaves(alloc, failing, answer, (31, written as usize))
-}
-
-// Behind a read that fails nothing is written.
-fn is_unread(alloc: Global, failing_read: u64) -> bool {
-    let failing = (Some(failing_read), SinkFail::Never, SinkFail::Never);
-    leaves(alloc, failing, Err(Fault::ReaderFault), (0, 0))
-}
-
-// Whether nothing is written of what is refused: an export of a function that isn't there.
-fn is_refused(alloc: Global) -> bool {
-    let refused = bytes_of(b"header export");
-    let answer = Err(Fault::Index {
-        space: Space::Function,
-        offset: 14,
-    });
-    runs(alloc, refused.as_slice(), NOWHERE, answer, (b"", b""))
-}
-
-const LISTING_CUTS: [(SinkFail, u64); 5] = [
-    (SinkFail::After(0), 0),
-    (SinkFail::After(1), 1),
-    (SinkFail::Zero(2), 2),
-    (SinkFail::After(3), 3),
-    (SinkFail::Flush, 4),
-];
-
+// A writer that fails has the first bytes, one of places, behind all bytes, the first of the lines. Nothing is written behind a read that fails, and of
+// what is refused.
 #[test]
 fn a_run_tells_which_device_failed_and_how_much_it_took(rt: HostRuntime) {
-    assert!(rt; is_counted(rt.alloc()) && is_cut(rt.alloc(), SinkFail::Flush, 31));
-    for written in 0..31u64 {
-        for fail in [SinkFail::After(written), SinkFail::Zero(written)] {
-            assert!(rt; is_cut(rt.alloc(), fail, written));
-        }
+    let never = SinkFail::Never;
+    let rows = [
+        (INPUT, (None, never, never), DONE, (31, 4)),
+        (
+            INPUT,
+            (None, SinkFail::After(0), never),
+            unwritten(0),
+            (0, 0),
+        ),
+        (
+            INPUT,
+            (None, SinkFail::Zero(1), never),
+            unwritten(1),
+            (1, 0),
+        ),
+        (
+            INPUT,
+            (None, SinkFail::After(30), never),
+            unwritten(30),
+            (30, 0),
+        ),
+        (
+            INPUT,
+            (None, SinkFail::Flush, never),
+            unwritten(31),
+            (31, 0),
+        ),
+        (
+            INPUT,
+            (None, never, SinkFail::After(0)),
+            unplaced(0),
+            (31, 0),
+        ),
+        (
+            INPUT,
+            (None, never, SinkFail::Zero(2)),
+            unplaced(2),
+            (31, 2),
+        ),
+        (INPUT, (None, never, SinkFail::Flush), unplaced(4), (31, 4)),
+        (
+            INPUT,
+            (Some(0), never, never),
+            Err(Fault::ReaderFault),
+            (0, 0),
+        ),
+        (
+            INPUT,
+            (Some(1), never, never),
+            Err(Fault::ReaderFault),
+            (0, 0),
+        ),
+        (NO_FUNCTION, (None, never, never), REFUSED, (0, 0)),
+    ];
+    for (input, failing, answer, taken) in rows {
+        assert!(rt; runs(rt.alloc(), input, failing, answer, taken));
     }
-    for (fail, written) in LISTING_CUTS {
-        assert!(rt; is_listing_cut(rt.alloc(), fail, written));
-    }
-    assert!(rt; is_unread(rt.alloc(), 0) && is_unread(rt.alloc(), 1));
-    assert!(rt; is_refused(rt.alloc()));
 }

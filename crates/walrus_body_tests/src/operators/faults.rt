@@ -2,13 +2,12 @@
 
 use crate::operators::maps::Maps;
 use crate::operators::view::{ANSWERS, answer};
-use crate::operators::words::{as_slice, bytes_of, first, nth, number};
-use crate::words::cut;
 use std::alloc::Global;
+use test_words::{bytes_of, cut, head, nth, number};
 use wasm_reader::WasmFeatures;
 
 fn without(feature: &[u8]) -> WasmFeatures {
-    match first(feature) {
+    match head(feature) {
         b'l' => WasmFeatures::all().difference(WasmFeatures::LEGACY_EXCEPTIONS),
         b'w' => WasmFeatures::all().difference(WasmFeatures::WIDE_ARITHMETIC),
         _ => WasmFeatures::all(),
@@ -21,8 +20,8 @@ pub(crate) fn is_refused(alloc: Global, maps: &Maps, row: &[u8]) -> bool {
     let (bytes, rest) = cut(rest, b' ');
     let (answers, rest) = cut(rest, b' ');
     let (missing, place) = cut(rest, b' ');
-    let found = answer(alloc, maps, without(off), as_slice(&bytes_of(bytes)), None);
+    let found = answer(alloc, maps, without(off), bytes_of(bytes).as_slice(), None);
     nth(ANSWERS.as_bytes(), found.0) == answers
-        && found.1 == number(missing, 10)
-        && found.2 == number(place, 10)
+        && found.1 == number(missing)
+        && found.2 == number(place)
 }

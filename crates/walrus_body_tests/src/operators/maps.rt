@@ -5,7 +5,7 @@ ghost use Rattle.walrus_body_tests.specs.Given.{given};
 
 use std::alloc::AllocError;
 use walrus_arena::{FunctionId, Id};
-use walrus_index_maps::{IdsToIndices, IndicesToIds, Space, UnknownIndex};
+use walrus_index_maps::{IdsToIndices, IndicesToIds, Space};
 
 /// What indices name, and what numbers ids have.
 #[derive(Drop)]
@@ -36,29 +36,6 @@ fn push(ids: &mut IndicesToIds, space: Space, at: u32) -> Result<u32, AllocError
         Space::Element => ids.push_element(id(at)),
         Space::Data => ids.push_data(id(at)),
         _ => ids.push_local(body(), id(at)),
-    }
-}
-
-// The number of an id that was found.
-fn place<S>(found: Result<Id<S>, UnknownIndex>) -> Result<u32, UnknownIndex> {
-    match found {
-        Ok(id) => Ok(id.number()),
-        Err(unknown) => Err(unknown),
-    }
-}
-
-// What an index of the space names.
-fn named(ids: &IndicesToIds, space: Space, index: u32) -> Result<u32, UnknownIndex> {
-    match space {
-        Space::Type => place(ids.get_type(index)),
-        Space::Function => place(ids.get_func(index)),
-        Space::Table => place(ids.get_table(index)),
-        Space::Memory => place(ids.get_memory(index)),
-        Space::Tag => place(ids.get_tag(index)),
-        Space::Global => place(ids.get_global(index)),
-        Space::Element => place(ids.get_element(index)),
-        Space::Data => place(ids.get_data(index)),
-        _ => place(ids.get_local(body(), index)),
     }
 }
 
@@ -132,20 +109,6 @@ fn give(numbers: &mut IdsToIndices, space: Space, at: u32, number: u32) -> Resul
     }
 }
 
-fn number_of(numbers: &IdsToIndices, space: Space, at: u32) -> Option<u32> {
-    match space {
-        Space::Type => numbers.get_type_index(id(at)),
-        Space::Function => numbers.get_func_index(id(at)),
-        Space::Table => numbers.get_table_index(id(at)),
-        Space::Memory => numbers.get_memory_index(id(at)),
-        Space::Tag => numbers.get_tag_index(id(at)),
-        Space::Global => numbers.get_global_index(id(at)),
-        Space::Element => numbers.get_element_index(id(at)),
-        Space::Data => numbers.get_data_index(id(at)),
-        _ => numbers.get_local_index(body(), id(at)),
-    }
-}
-
 // A space, and the id of its first item.
 const FIRST: [(Space, u32); 9] = [
     (Space::Type, 200),
@@ -171,112 +134,27 @@ fn item(turn: u32) -> (Space, u32, u32) {
     }
 }
 
-/// Each index names nothing before its turn, and then its id.
+/// Each index names its id.
 pub(crate) fn fill_ids(ids: &mut IndicesToIds) -> bool {
     for turn in 0..1188u32 {
         let (space, id, _) = item(turn);
-        if named(ids, space, turn / 9) != Err(UnknownIndex(space))
-            || push(ids, space, id) != Ok(turn / 9)
-        {
+        if push(ids, space, id) != Ok(turn / 9) {
             return false;
         }
     }
     true
 }
 
-/// Whether each index names its id still, locals are of one function, and types can be named anew.
-pub(crate) fn are_named(ids: &mut IndicesToIds) -> bool {
-    for turn in 0..1188u32 {
-        let (space, id, _) = item(turn);
-        if named(ids, space, turn / 9) != Ok(id) {
-            return false;
-        }
-    }
-    ids.remap_type(0, id(9));
-    named(ids, Space::Type, 0) == Ok(9)
-        && named(ids, Space::Type, 129) == Ok(329)
-        && place(ids.get_local(id(8), 0)) == Err(UnknownIndex(Space::Local))
-}
-
-/// Each id has no number before its turn, and then its own.
+/// Each id has its own number.
 pub(crate) fn fill_numbers(numbers: &mut IdsToIndices) -> bool
     requires { given (indices numbers.old) ≡ 0 }
 {
     for turn in 0..1170u32 {
         let (space, id, number) = item(turn);
-        if number_of(numbers, space, id).is_some() {
-            return false;
-        }
         let Ok(given) = give(numbers, space, id, number) else {
             return false;
         };
         if given != number {
-            return false;
-        }
-    }
-    true
-}
-
-/// Whether each id has its number still, in its own space alone, and no other has one.
-pub(crate) fn are_numbered(numbers: &IdsToIndices) -> bool {
-    for turn in 0..1188u32 {
-        let (space, id, number) = item(turn);
-        let wanted = if turn < 1170 { Some(number) } else { None };
-        if number_of(numbers, space, id) != wanted {
-            return false;
-        }
-        // The first item of each space, in each space.
-        let (_, id, _) = item(turn / 9 % 9);
-        let wanted = if turn / 9 % 9 == turn % 9 {
-            Some(0)
-        } else {
-            None
-        };
-        if number_of(numbers, space, id) != wanted {
-            return false;
-        }
-    }
-    number_of(numbers, Space::Element, 1530).is_none()
-}
-
-// A function, a local, and its number there.
-type Row = (u32, u32, u32);
-
-const SET: [Row; 6] = [
-    (1, 5, 10),
-    (2, 5, 20),
-    (1, 6, 11),
-    (1, 5, 12),
-    (3, 5, 30),
-    (2, 5, 21),
-];
-
-// What has come of them, 0 being none.
-const HELD: [Row; 9] = [
-    (1, 5, 12),
-    (2, 5, 21),
-    (3, 5, 30),
-    (1, 6, 11),
-    (2, 6, 0),
-    (3, 6, 0),
-    (4, 5, 0),
-    (1, 7, 0),
-    (1, 4294967295, 0),
-];
-
-/// Whether functions that share a local have their own numbers of it.
-pub(crate) fn are_apart(numbers: &mut IdsToIndices) -> bool {
-    for &(function, local, number) in &SET {
-        if numbers
-            .set_local_index(id(function), id(local), number)
-            .is_err()
-        {
-            return false;
-        }
-    }
-    for &(function, local, number) in &HELD {
-        let found = numbers.get_local_index(id(function), id(local));
-        if found != if number == 0 { None } else { Some(number) } {
             return false;
         }
     }

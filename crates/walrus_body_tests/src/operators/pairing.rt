@@ -1,12 +1,12 @@
 //! What pairing makes of operators.
 
+use crate::operators::bytes::code;
 use crate::operators::maps::{Maps, body};
 use crate::operators::names::{is_named, named};
 use crate::operators::numbers::place;
 use crate::operators::view::is_written;
-use crate::operators::words::{code, number};
-use crate::words::cut;
 use std::alloc::Global;
+use test_words::{cut, number};
 use walrus_index_maps::IdsToIndices;
 use walrus_instr::Instr;
 use walrus_operators::{Immediates, Operator};
@@ -19,9 +19,9 @@ pub(crate) const MADE: &str =
     "back other none shared select alignment no-type no-function no-table no-memory no-tag no-global no-element no-data no-local no-label";
 
 // (The spaces stand in the text in the order of their declaration.)
-fn refused(fault: PairError) -> usize {
+fn refused(fault: PairError) -> u32 {
     match fault {
-        PairError::Unknown(space) => (space as usize).saturating_add(6),
+        PairError::Unknown(space) => (space as u32).saturating_add(6),
         PairError::SharedType => 3,
         PairError::Select => 4,
         PairError::Alignment => 5,
@@ -30,7 +30,7 @@ fn refused(fault: PairError) -> usize {
 }
 
 // Immediates of the same form, too: a byte 00 and a lane 0 are written alike.
-fn is_it(alloc: Global, operator: &Operator, code: OpCode, form: usize, bytes: &[u8]) -> bool {
+fn is_it(alloc: Global, operator: &Operator, code: OpCode, form: u32, bytes: &[u8]) -> bool {
     operator.code == code
         && (bytes.is_empty()
             || (place(&operator.immediates) == form) & is_written(alloc, operator, bytes))
@@ -42,7 +42,7 @@ pub(crate) fn gives(
     numbers: &IdsToIndices,
     instr: &Instr,
     code: OpCode,
-    form: usize,
+    form: u32,
     bytes: &[u8],
 ) -> bool {
     match operator_of(alloc, instr, body(), numbers) {
@@ -54,7 +54,7 @@ pub(crate) fn gives(
 fn has_ids(instr: &Instr, words: &[u8]) -> bool {
     let (one, other) = cut(words, b' ');
     let (_, _, first, second) = named(instr);
-    (first as u64 == number(one, 10)) & (second as u64 == number(other, 10))
+    (first as u64 == number(one)) & (second as u64 == number(other))
 }
 
 // Whether the instruction has these ids in its fields, or, where none are asked for, the code of its name, and gives the operator back.
@@ -88,7 +88,7 @@ pub(crate) fn made(
     operator: &Operator,
     bytes: &[u8],
     ids: &[u8],
-) -> usize {
+) -> u32 {
     match instr_of(operator, body(), &maps.ids) {
         Ok(Some(instr)) => {
             if is_back(alloc, &maps.numbers, &instr, operator, bytes, ids) {

@@ -201,243 +201,239 @@ missing fe 3
 missing 01 69
 sum 5";
 
-/// What follows the codes of each form: its bytes, its numbers, and what pairing makes of it. `back` is an instruction that gives the same
-/// operator, where the code has one; `none` is no instruction, and all else a refusal. The maps have 131 items of each space.
-///
-/// Numbers are the indices in their order; of an access its alignment, memory and offset; of handlers a block type, then kind, tag and
-/// label of each; of labels the last, then the others. Types stand as the signed numbers that they are read as, types by index in a
-/// block's place 2^32 higher, shared ones 100 lower, and references that aren't null 2^24 lower.
-pub(crate) const IMMEDIATES: &str = "bare - - back
-zero 00 - back
-tag 00 0 back
-tag 7f 127 back
-tag 8001 128 back
-tag ffffffff0f 4294967295 no-tag
-label 00 0 none
-label 7f 127 none
-label 8001 128 none
-label ffffffff0f 4294967295 none
-function 00 0 back
-function 7f 127 back
-function 8001 128 back
-function ffffffff0f 4294967295 no-function
-type 00 0 back
-type 7f 127 back
-type 8001 128 back
-type ffffffff0f 4294967295 no-type
-local 00 0 back
-local 7f 127 back
-local 8001 128 back
-local ffffffff0f 4294967295 no-local
-global 00 0 back
-global 7f 127 back
-global 8001 128 back
-global ffffffff0f 4294967295 no-global
-table 00 0 back
-table 7f 127 back
-table 8001 128 back
-table ffffffff0f 4294967295 no-table
-memory 00 0 back
-memory 7f 127 back
-memory 8001 128 back
-memory ffffffff0f 4294967295 no-memory
-data 00 0 back
-data 7f 127 back
-data 8001 128 back
-data ffffffff0f 4294967295 no-data
-element 00 0 back
-element 7f 127 back
-element 8001 128 back
-element ffffffff0f 4294967295 no-element
-type-table 810100 129,0 back
-type-table 81017f 129,127 back
-type-table 81018001 129,128 back
-type-table 8101ffffffff0f 129,4294967295 no-table
-type-table 0005 0,5 back
-type-table 7f05 127,5 back
-type-table 800105 128,5 back
-type-table ffffffff0f05 4294967295,5 no-type
-data-memory 810100 129,0 back
-data-memory 81017f 129,127 back
-data-memory 81018001 129,128 back
-data-memory 8101ffffffff0f 129,4294967295 no-memory
-data-memory 0005 0,5 back
-data-memory 7f05 127,5 back
-data-memory 800105 128,5 back
-data-memory ffffffff0f05 4294967295,5 no-data
-memory-memory 810100 129,0 back
-memory-memory 81017f 129,127 back
-memory-memory 81018001 129,128 back
-memory-memory 8101ffffffff0f 129,4294967295 no-memory
-memory-memory 0005 0,5 back
-memory-memory 7f05 127,5 back
-memory-memory 800105 128,5 back
-memory-memory ffffffff0f05 4294967295,5 no-memory
-element-table 810100 129,0 back
-element-table 81017f 129,127 back
-element-table 81018001 129,128 back
-element-table 8101ffffffff0f 129,4294967295 no-table
-element-table 0005 0,5 back
-element-table 7f05 127,5 back
-element-table 800105 128,5 back
-element-table ffffffff0f05 4294967295,5 no-element
-table-table 810100 129,0 back
-table-table 81017f 129,127 back
-table-table 81018001 129,128 back
-table-table 8101ffffffff0f 129,4294967295 no-table
-table-table 0005 0,5 back
-table-table 7f05 127,5 back
-table-table 800105 128,5 back
-table-table ffffffff0f05 4294967295,5 no-table
-type-number 810100 129,0 back
-type-number 81017f 129,127 back
-type-number 81018001 129,128 back
-type-number 8101ffffffff0f 129,4294967295 back
-type-number 0005 0,5 back
-type-number 7f05 127,5 back
-type-number 800105 128,5 back
-type-number ffffffff0f05 4294967295,5 no-type
-type-data 810100 129,0 back
-type-data 81017f 129,127 back
-type-data 81018001 129,128 back
-type-data 8101ffffffff0f 129,4294967295 no-data
-type-data 0005 0,5 back
-type-data 7f05 127,5 back
-type-data 800105 128,5 back
-type-data ffffffff0f05 4294967295,5 no-type
-type-element 810100 129,0 back
-type-element 81017f 129,127 back
-type-element 81018001 129,128 back
-type-element 8101ffffffff0f 129,4294967295 no-element
-type-element 0005 0,5 back
-type-element 7f05 127,5 back
-type-element 800105 128,5 back
-type-element ffffffff0f05 4294967295,5 no-type
-type-type 810100 129,0 back
-type-type 81017f 129,127 back
-type-type 81018001 129,128 back
-type-type 8101ffffffff0f 129,4294967295 no-type
-type-type 0005 0,5 back
-type-type 7f05 127,5 back
-type-type 800105 128,5 back
-type-type ffffffff0f05 4294967295,5 no-type
-access 0000 0,0,0 back
-access 1f7f 31,0,127 back
-access 3f8001 63,0,128 alignment
-access 1fffffffffffffffffff01 31,0,18446744073709551615 back
-access 800100 128,0,0 alignment
-access bfffffff0f00 4294967231,0,0 alignment
-access 427f8001 2,127,128 back
-access 5f80017f 31,128,127 back
-access 40ffffffff0f00 0,4294967295,0 no-memory
-access ffffffff0f0105 4294967231,1,5 alignment
-lane 00 0 back
-lane 7f 127 back
-lane 80 128 back
-lane ff 255 back
-access-lane 1f800100 31,0,128,0 back
-access-lane 1f80017f 31,0,128,127 back
-access-lane 1f800180 31,0,128,128 back
-access-lane 1f8001ff 31,0,128,255 back
-access-lane 437f0700 3,127,7,0 back
-access-lane 437f077f 3,127,7,127 back
-access-lane 437f0780 3,127,7,128 back
-access-lane 437f07ff 3,127,7,255 back
-access-lane 83010700 131,0,7,0 alignment
-access-lane 8301077f 131,0,7,127 alignment
-access-lane 83010780 131,0,7,128 alignment
-access-lane 830107ff 131,0,7,255 alignment
-access-lane 00007f 0,0,0,127 back
-access-lane 4080017f00 0,128,127,0 back
-access-lane 1fffffffffffffffffff0100 31,0,18446744073709551615,0 back
-access-lane 40ffffffff0f0000 0,4294967295,0,0 no-memory
-i32 00 0 back
-i32 3f 63 back
-i32 40 -64 back
-i32 c000 64 back
-i32 bf7f -65 back
-i32 ff00 127 back
-i32 8001 128 back
-i32 ffffffff07 2147483647 back
-i32 8080808078 -2147483648 back
-i64 00 0 back
-i64 7f -1 back
-i64 3f 63 back
-i64 40 -64 back
-i64 c000 64 back
-i64 bf7f -65 back
-i64 ff00 127 back
-i64 8001 128 back
-i64 807f -128 back
-i64 ffffffffffffffffff00 9223372036854775807 back
-i64 8080808080808080807f -9223372036854775808 back
-f32 00000000 0 back
-f32 01020384 2214789633 back
-f32 ffffffff 4294967295 back
-f64 0100000000000080 9223372036854775809 back
-f64 ffffffffffffffff 18446744073709551615 back
-vector 000102030405060708090a0b0c0d0e0f 0,1,2,3,4,5,6,7,8,9,10,11,12,13,14,15 back
-vector ffffffffffffffffffffffffffffff80 255,255,255,255,255,255,255,255,255,255,255,255,255,255,255,128 back
-block 40 -64 none
-block 7f -1 none
-block 7b -5 none
-block 6f -17 none
-block 00 4294967296 none
-block 3f 4294967359 none
-block c000 4294967360 none
-block ff00 4294967423 none
-block 8001 4294967424 none
-block ffffffff0f 8589934591 none
-heap 70 -16 back
-heap 6570 -116 shared
-heap 6f -17 back
-heap 656f -117 shared
-heap 6e -18 back
-heap 656e -118 shared
-heap 71 -15 back
-heap 6571 -115 shared
-heap 72 -14 back
-heap 6572 -114 shared
-heap 73 -13 back
-heap 6573 -113 shared
-heap 6d -19 back
-heap 656d -119 shared
-heap 6b -21 back
-heap 656b -121 shared
-heap 6a -22 back
-heap 656a -122 shared
-heap 6c -20 back
-heap 656c -120 shared
-heap 69 -23 back
-heap 6569 -123 shared
-heap 74 -12 back
-heap 6574 -112 shared
-heap 00 0 back
-heap 3f 63 back
-heap c000 64 back
-heap ff00 127 back
-heap 8001 128 back
-heap ffff3f 1048575 no-type
-cast 00006e70 0,0,-18,-16 none
-cast 017f80016e 1,127,128,-18 none
-cast 028001006f 2,128,0,-17 none
-cast 03ffffffff0f6effff3f 3,4294967295,-18,1048575 none
-cast 000000ff00 0,0,0,127 none
-cast 0000ff008001 0,0,127,128 none
-cast 0000ffff3f00 0,0,1048575,0 none
-labels 0000 0 none
-labels 007f 127 none
-labels 008001 128 none
-labels 01ffffffff0fffffffff0f 4294967295,4294967295 none
-labels 03007f800105 5,0,127,128 none
-handlers 0504007f800101ffffffff0f00027f03ffffffff0f 4294967301,0,127,128,1,4294967295,0,2,0,127,3,0,4294967295 none
-handlers 05020002030304 4294967301,0,2,3,3,0,4 none
-handlers 40020000000180018001 -64,0,0,0,1,128,128 none
-values 017f -1 back
-values 017c -4 back
-values 016300 0 back
-values 0164ff00 -16777089 back
-values 01638001 128 back
-values 0163ffff3f 1048575 no-type
-values 027f63ffff3f -1,1048575 no-type
-values 027f6f -1,-17 select";
+/// What follows the codes of each form: its bytes, and what pairing makes of it. `back` is an instruction that gives the same operator, where the code has
+/// one; `none` is no instruction, and all else a refusal. The maps have 131 items of each space.
+pub(crate) const IMMEDIATES: &str = "bare - back
+zero 00 back
+tag 00 back
+tag 7f back
+tag 8001 back
+tag ffffffff0f no-tag
+label 00 none
+label 7f none
+label 8001 none
+label ffffffff0f none
+function 00 back
+function 7f back
+function 8001 back
+function ffffffff0f no-function
+type 00 back
+type 7f back
+type 8001 back
+type ffffffff0f no-type
+local 00 back
+local 7f back
+local 8001 back
+local ffffffff0f no-local
+global 00 back
+global 7f back
+global 8001 back
+global ffffffff0f no-global
+table 00 back
+table 7f back
+table 8001 back
+table ffffffff0f no-table
+memory 00 back
+memory 7f back
+memory 8001 back
+memory ffffffff0f no-memory
+data 00 back
+data 7f back
+data 8001 back
+data ffffffff0f no-data
+element 00 back
+element 7f back
+element 8001 back
+element ffffffff0f no-element
+type-table 810100 back
+type-table 81017f back
+type-table 81018001 back
+type-table 8101ffffffff0f no-table
+type-table 0005 back
+type-table 7f05 back
+type-table 800105 back
+type-table ffffffff0f05 no-type
+data-memory 810100 back
+data-memory 81017f back
+data-memory 81018001 back
+data-memory 8101ffffffff0f no-memory
+data-memory 0005 back
+data-memory 7f05 back
+data-memory 800105 back
+data-memory ffffffff0f05 no-data
+memory-memory 810100 back
+memory-memory 81017f back
+memory-memory 81018001 back
+memory-memory 8101ffffffff0f no-memory
+memory-memory 0005 back
+memory-memory 7f05 back
+memory-memory 800105 back
+memory-memory ffffffff0f05 no-memory
+element-table 810100 back
+element-table 81017f back
+element-table 81018001 back
+element-table 8101ffffffff0f no-table
+element-table 0005 back
+element-table 7f05 back
+element-table 800105 back
+element-table ffffffff0f05 no-element
+table-table 810100 back
+table-table 81017f back
+table-table 81018001 back
+table-table 8101ffffffff0f no-table
+table-table 0005 back
+table-table 7f05 back
+table-table 800105 back
+table-table ffffffff0f05 no-table
+type-number 810100 back
+type-number 81017f back
+type-number 81018001 back
+type-number 8101ffffffff0f back
+type-number 0005 back
+type-number 7f05 back
+type-number 800105 back
+type-number ffffffff0f05 no-type
+type-data 810100 back
+type-data 81017f back
+type-data 81018001 back
+type-data 8101ffffffff0f no-data
+type-data 0005 back
+type-data 7f05 back
+type-data 800105 back
+type-data ffffffff0f05 no-type
+type-element 810100 back
+type-element 81017f back
+type-element 81018001 back
+type-element 8101ffffffff0f no-element
+type-element 0005 back
+type-element 7f05 back
+type-element 800105 back
+type-element ffffffff0f05 no-type
+type-type 810100 back
+type-type 81017f back
+type-type 81018001 back
+type-type 8101ffffffff0f no-type
+type-type 0005 back
+type-type 7f05 back
+type-type 800105 back
+type-type ffffffff0f05 no-type
+access 0000 back
+access 1f7f back
+access 3f8001 alignment
+access 1fffffffffffffffffff01 back
+access 800100 alignment
+access bfffffff0f00 alignment
+access 427f8001 back
+access 5f80017f back
+access 40ffffffff0f00 no-memory
+access ffffffff0f0105 alignment
+lane 00 back
+lane 7f back
+lane 80 back
+lane ff back
+access-lane 1f800100 back
+access-lane 1f80017f back
+access-lane 1f800180 back
+access-lane 1f8001ff back
+access-lane 437f0700 back
+access-lane 437f077f back
+access-lane 437f0780 back
+access-lane 437f07ff back
+access-lane 83010700 alignment
+access-lane 8301077f alignment
+access-lane 83010780 alignment
+access-lane 830107ff alignment
+access-lane 00007f back
+access-lane 4080017f00 back
+access-lane 1fffffffffffffffffff0100 back
+access-lane 40ffffffff0f0000 no-memory
+i32 00 back
+i32 3f back
+i32 40 back
+i32 c000 back
+i32 bf7f back
+i32 ff00 back
+i32 8001 back
+i32 ffffffff07 back
+i32 8080808078 back
+i64 00 back
+i64 7f back
+i64 3f back
+i64 40 back
+i64 c000 back
+i64 bf7f back
+i64 ff00 back
+i64 8001 back
+i64 807f back
+i64 ffffffffffffffffff00 back
+i64 8080808080808080807f back
+f32 00000000 back
+f32 01020384 back
+f32 ffffffff back
+f64 0100000000000080 back
+f64 ffffffffffffffff back
+vector 000102030405060708090a0b0c0d0e0f back
+vector ffffffffffffffffffffffffffffff80 back
+block 40 none
+block 7f none
+block 7b none
+block 6f none
+block 00 none
+block 3f none
+block c000 none
+block ff00 none
+block 8001 none
+block ffffffff0f none
+heap 70 back
+heap 6570 shared
+heap 6f back
+heap 656f shared
+heap 6e back
+heap 656e shared
+heap 71 back
+heap 6571 shared
+heap 72 back
+heap 6572 shared
+heap 73 back
+heap 6573 shared
+heap 6d back
+heap 656d shared
+heap 6b back
+heap 656b shared
+heap 6a back
+heap 656a shared
+heap 6c back
+heap 656c shared
+heap 69 back
+heap 6569 shared
+heap 74 back
+heap 6574 shared
+heap 00 back
+heap 3f back
+heap c000 back
+heap ff00 back
+heap 8001 back
+heap ffff3f no-type
+cast 00006e70 none
+cast 017f80016e none
+cast 028001006f none
+cast 03ffffffff0f6effff3f none
+cast 000000ff00 none
+cast 0000ff008001 none
+cast 0000ffff3f00 none
+labels 0000 none
+labels 007f none
+labels 008001 none
+labels 01ffffffff0fffffffff0f none
+labels 03007f800105 none
+handlers 0504007f800101ffffffff0f00027f03ffffffff0f none
+handlers 05020002030304 none
+handlers 40020000000180018001 none
+values 017f back
+values 017c back
+values 016300 back
+values 0164ff00 back
+values 01638001 back
+values 0163ffff3f no-type
+values 027f63ffff3f no-type
+values 027f6f select";

@@ -5,16 +5,15 @@ use crate::operators::faults::is_refused;
 use crate::operators::maps::Maps;
 use crate::operators::pairing::has_no_instr;
 use crate::operators::rows::ROWS;
-use crate::operators::words::{first, number};
-use crate::words::cut;
 use std::alloc::Global;
+use test_words::{cut, head, number};
 
 // The sum of a kind behind one more row, of operators, codes or rows, if it stands. It is 0 again behind the row of the sum.
 fn sum_with(alloc: Global, maps: &Maps, sum: u32, row: &[u8]) -> Option<u32> {
     let (kind, words) = cut(row, b' ');
-    let stands = match first(kind) {
+    let stands = match head(kind) {
         b's' => {
-            return if number(words, 10) == sum as u64 {
+            return if number(words) == sum as u64 {
                 Some(0)
             } else {
                 None

@@ -1,22 +1,21 @@
 //! What reading answers of bytes, and what is asked of the operator that they are.
 
 use crate::operators::maps::Maps;
-use crate::operators::numbers::{FORMS, has_numbers, place};
+use crate::operators::numbers::{FORMS, place};
 use crate::operators::pairing::{MADE, made};
-use crate::operators::words::{as_slice, bytes_of, nth};
 use std::alloc::Global;
+use test_words::{bytes_of, nth};
 use walrus_operators::{Operator, OperatorError, OperatorReader, write_operator};
 use wasm_operators::OpCode;
 use wasm_reader::{BinaryReader, ErrorKind, WasmFeatures};
 
-/// What is asked of an operator: a kind, as the first byte of a row's first word, a code, the form of its immediates, their numbers, and words.
+/// What is asked of an operator: a kind, as the first byte of a row's first word, a code, the form of its immediates, and words.
 ///
-/// - `c`: it has that code, and immediates of that form and with those numbers, it and its copy are written as its bytes, and pairing makes
-///   of it what the words say.
+/// - `c`: it has that code, and immediates of that form, it and its copy are written as its bytes, and pairing makes of it what the words say.
 /// - `p`: it is written as the bytes of the words.
 /// - `r`: the operator of its instruction is.
 /// - `i`: its instruction has these ids in its fields.
-pub(crate) type Asked<'a> = (u8, OpCode, &'a [u8], &'a [u8], &'a [u8]);
+pub(crate) type Asked<'a> = (u8, OpCode, &'a [u8], &'a [u8]);
 
 /// The operator is written as these bytes.
 pub(crate) fn is_written(alloc: Global, operator: &Operator, expected: &[u8]) -> bool {
@@ -32,25 +31,24 @@ fn is_copied(alloc: Global, operator: &Operator, bytes: &[u8]) -> bool {
 }
 
 fn is_so(alloc: Global, maps: &Maps, operator: &Operator, bytes: &[u8], asked: &Asked<'_>) -> bool {
-    let (kind, code, form, numbers, words) = *asked;
+    let (kind, code, form, words) = *asked;
     match kind {
         b'c' => {
             (operator.code == code)
                 & (nth(FORMS.as_bytes(), place(&operator.immediates)) == form)
-                & has_numbers(&operator.immediates, numbers)
                 & is_written(alloc, operator, bytes)
                 & is_copied(alloc, operator, bytes)
                 & (nth(MADE.as_bytes(), made(alloc, maps, operator, bytes, &[])) == words)
         }
-        b'p' => is_written(alloc, operator, as_slice(&bytes_of(words))),
-        b'r' => made(alloc, maps, operator, as_slice(&bytes_of(words)), &[]) == 0,
+        b'p' => is_written(alloc, operator, bytes_of(words).as_slice()),
+        b'r' => made(alloc, maps, operator, bytes_of(words).as_slice(), &[]) == 0,
         b'i' => made(alloc, maps, operator, bytes, words) == 0,
         _ => false,
     }
 }
 
 // The place of a kind of fault in the text below, and how many bytes are missing.
-fn named(kind: ErrorKind) -> (usize, u64) {
+fn named(kind: ErrorKind) -> (u32, u64) {
     match kind {
         ErrorKind::EndOfFile(missing) => (END, missing as u64),
         ErrorKind::TooLong => (4, 0),
@@ -64,7 +62,7 @@ fn named(kind: ErrorKind) -> (usize, u64) {
 pub(crate) const ANSWERS: &str = "none other unknown end long large bad";
 
 /// The place of `end` in the text.
-pub(crate) const END: usize = 3;
+pub(crate) const END: u32 = 3;
 
 /// What reading the first operator of the bytes answers: the place of a word of the text, how many bytes are missing, and the fault's place.
 /// The first byte stands at 11. Of an operator nothing may be asked.
@@ -74,7 +72,7 @@ pub(crate) fn answer(
     features: WasmFeatures,
     bytes: &[u8],
     asked: Option<&Asked<'_>>,
-) -> (usize, u64, u64) {
+) -> (u32, u64, u64) {
     let mut reader = OperatorReader::new(BinaryReader::new_features(bytes, 11, features));
     match reader.read(alloc) {
         Ok(operator) => {

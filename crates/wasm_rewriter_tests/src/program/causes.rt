@@ -1,8 +1,8 @@
 // What is said of files, whole.
 use super::folder::Folder;
-use crate::shown::is_shown;
 use rewriter_program::{Failure, Job, Mistake, Targets, job_of, rewrite_files};
 use std::io;
+use test_words::is_shown;
 use wasm_rewriter::Fault;
 
 // The least module.
@@ -48,7 +48,7 @@ pub fn are_told(rt: &HostRuntime, folder: &Folder<'_>) -> bool {
 }
 
 #[test]
-fn a_fault_of_a_file_has_its_cause(rt: HostRuntime) {
+fn failures_and_mistakes_are_told(rt: HostRuntime) {
     let missing = Failure {
         fault: Fault::ReaderFault,
         cause: Some(("in.wasm", io::Error::from_raw_os_error(2))),
@@ -57,10 +57,6 @@ fn a_fault_of_a_file_has_its_cause(rt: HostRuntime) {
     assert!(rt; is_shown(rt.alloc(), &missing, text));
     let header = Failure::from(Fault::Header { offset: 0 });
     assert!(rt; is_shown(rt.alloc(), &header, b"error at 0: not a WebAssembly module"));
-}
-
-#[test]
-fn mistakes_name_the_two_words(rt: HostRuntime) {
     assert!(rt; Mistake::PlacesIsOutput.text() == "OUTPUT and FILE are one file");
     assert!(rt; Mistake::PlacesIsInput.text() == "INPUT and FILE are one file");
 }

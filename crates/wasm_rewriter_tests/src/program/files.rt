@@ -3,8 +3,7 @@ use super::folder::Folder;
 use super::host::{Failing, Host};
 use super::outputs::{Fate, becomes};
 use crate::devices::read_of;
-use crate::shown::written;
-use crate::words::{Bytes, bytes_of, cut, number, text_of};
+use crate::modules::{INPUT, OUTPUT, PLACE};
 use rewriter_program::{InputFile, run_words};
 use std::alloc::Global;
 use std::fs;
@@ -12,30 +11,7 @@ use std::io::{PipeReader, PipeWriter, Read};
 use std::os::fd::AsRawFd;
 use std::rt::Files;
 use std::test::Fail;
-
-// Adds a module of a function of one `nop`, exported.
-fn adds_input(folder: &Folder<'_>, name: &str) -> bool {
-    folder.add(
-        name,
-        bytes_of(b"header type function export nop").as_slice(),
-    )
-}
-
-// Whether the file still has that module.
-fn has_input(folder: &Folder<'_>, name: &str) -> bool {
-    folder.holds(
-        name,
-        bytes_of(b"header type function export nop").as_slice(),
-    )
-}
-
-// Whether the file has it without the `nop`.
-fn has_output(folder: &Folder<'_>, name: &str) -> bool {
-    folder.holds(
-        name,
-        bytes_of(b"header type function export code").as_slice(),
-    )
-}
+use test_words::{Bytes, cut, number, text_of, written};
 
 // The status of a run over these files.
 fn status_of<R: Files + Input + Print + Eprint + AllocGlobal>(
@@ -71,7 +47,7 @@ fn ends<R: Files + Input + Print + Eprint + AllocGlobal>(
     let input = folder.at(text_of(input));
     let output = folder.at(text_of(output));
     let found = status_of(rt, places.as_str(), input.as_str(), output.as_str());
-    u64::from(found) == number(status, 10) && folder.has(number(count, 10))
+    u64::from(found) == number(status) && folder.has(number(count))
 }
 
 fn all_end(rt: &HostRuntime, folder: &Folder<'_>, rows: &[u8]) -> bool {
@@ -91,23 +67,23 @@ fn all_end(rt: &HostRuntime, folder: &Folder<'_>, rows: &[u8]) -> bool {
 
 /// To a new file, and to one that a link names.
 pub fn is_rewritten(rt: &HostRuntime, folder: &Folder<'_>) -> bool {
-    adds_input(folder, "input")
+    folder.add("input", INPUT)
         && folder.add_link("none", "link")
         && ends(rt, folder, b"places input output 0 4")
-        && has_output(folder, "output")
-        && folder.holds("places", b"4 3\n")
+        && folder.holds("output", OUTPUT)
+        && folder.holds("places", PLACE)
         && ends(rt, folder, b"places input link 0 5")
-        && has_output(folder, "none")
+        && folder.holds("none", OUTPUT)
         && folder.is_link("link")
 }
 
 /// With its permissions, through a link.
 pub fn is_written_over(rt: &HostRuntime, folder: &Folder<'_>) -> bool {
-    adds_input(folder, "input")
+    folder.add("input", INPUT)
         && folder.set_mode("input", 0o640)
         && folder.add_link("input", "link")
         && ends(rt, folder, b"places input link 0 3")
-        && has_output(folder, "input")
+        && folder.holds("input", OUTPUT)
         && folder.is_link("link")
         && matches!(folder.mode_and_owner("input"), Some((0o640, _)))
 }
@@ -122,7 +98,7 @@ pub fn is_refused(rt: &HostRuntime, folder: &Folder<'_>) -> bool {
 
 // Two files, each also by other names, a link to a file that isn't there, and a folder.
 fn add_names(folder: &Folder<'_>) -> bool {
-    adds_input(folder, "in")
+    folder.add("in", INPUT)
         && folder.add("out", b"old")
         && folder.add_name("out", "hard")
         && folder.add_link("in", "in-link")
@@ -149,7 +125,7 @@ out none out 2 7";
 pub fn are_refused(rt: &HostRuntime, folder: &Folder<'_>) -> bool {
     add_names(folder)
         && all_end(rt, folder, TWICE)
-        && has_input(folder, "in")
+        && folder.holds("in", INPUT)
         && folder.holds("out", b"old")
 }
 
@@ -161,7 +137,7 @@ none/output input output 3 2";
 
 /// Files that can't be opened.
 pub fn is_unopened(rt: &HostRuntime, folder: &Folder<'_>) -> bool {
-    adds_input(folder, "input") && all_end(rt, folder, UNOPENED) && has_output(folder, "output")
+    folder.add("input", INPUT) && all_end(rt, folder, UNOPENED) && folder.holds("output", OUTPUT)
 }
 
 // Where this process has the file that is open by that number.
@@ -267,10 +243,10 @@ pub fn are_printed(rt: &HostRuntime, folder: &Folder<'_>) -> bool {
         failing: Failing::Nothing,
         printed: printed.as_str(),
     };
-    adds_input(folder, "input")
+    folder.add("input", INPUT)
         && status_of(&host, "-", from.as_str(), to.as_str()) == 0
-        && has_output(folder, "output")
-        && folder.holds("printed", b"4 3\n")
+        && folder.holds("output", OUTPUT)
+        && folder.holds("printed", PLACE)
         && folder.has(3)
 }
 
@@ -293,7 +269,7 @@ pub fn is_spared(rt: &HostRuntime, folder: &Folder<'_>) -> bool {
         failing: Failing::Nothing,
         printed: "",
     };
-    if !adds_input(folder, "input") {
+    if !folder.add("input", INPUT) {
         return false;
     }
     let path = next_path(rt, from.as_str());
@@ -301,5 +277,5 @@ pub fn is_spared(rt: &HostRuntime, folder: &Folder<'_>) -> bool {
         && status_of(rt, path.as_str(), from.as_str(), to.as_str()) == 3
         && ends(&host, folder, b"link input output 3 3")
         && ends(&host, folder, b"places input link 3 3")
-        && has_input(folder, "input")
+        && folder.holds("input", INPUT)
 }

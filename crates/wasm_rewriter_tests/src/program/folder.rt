@@ -1,10 +1,9 @@
 // A folder of a test's own. (It owns nothing, and a call that fails is a `false`.)
-use crate::shown::written;
-use crate::words::Bytes;
 use std::fs::Permissions;
 use std::os::unix::fs::{MetadataExt, PermissionsExt};
 use std::rt::Files;
 use std::{fs, process};
+use test_words::{Bytes, written};
 
 #[derive(Clone, Copy)]
 pub struct Folder<'a> {

@@ -1,10 +1,10 @@
 // What becomes of what is written to a path.
 use crate::devices::{cut_at, stays_failed};
-use crate::shown::is_shown;
 use rewriter_program::{OutputFile, Target, locate};
 use std::alloc::Global;
 use std::io;
 use std::rt::Files;
+use test_words::is_shown;
 use wasm_rewriter::Sink;
 
 /// What becomes of it.

@@ -1,42 +1,10 @@
 // Words, and what is said of them.
 use super::host::{Failing, Host};
-use crate::shown::is_shown;
-use crate::words::{cut, text_of};
 use rewriter_program::{job_of, run_words, status, words_of};
 use std::alloc::Global;
 use std::fmt::Display;
+use test_words::is_shown;
 use wasm_rewriter::Options;
-
-#[derive(Clone, Copy)]
-enum Flag {
-    Stable,
-    NoLegacy,
-    NoNames,
-    NoProducers,
-    Places,
-}
-
-fn word(flag: Flag) -> &'static str {
-    match flag {
-        Flag::Stable => "--stable",
-        Flag::NoLegacy => "--no-legacy",
-        Flag::NoNames => "--no-names",
-        Flag::NoProducers => "--no-producers",
-        Flag::Places => "--places=FILE",
-    }
-}
-
-fn chosen(flag: Flag) -> Options {
-    let mut options = Options::new();
-    match flag {
-        Flag::Stable => options.only_stable_features = true,
-        Flag::NoLegacy => options.legacy_exceptions = false,
-        Flag::NoNames => options.names = false,
-        Flag::NoProducers => options.producers = false,
-        Flag::Places => options.places = true,
-    }
-    options
-}
 
 // Whether the word chooses these options, beside which the files are named.
 fn is_chosen(alloc: Global, word: &str, options: Options) -> bool {
@@ -51,63 +19,94 @@ fn is_chosen(alloc: Global, word: &str, options: Options) -> bool {
     }
 }
 
+// What the word `--` chooses, which is no option.
+const PLAIN: Options = Options {
+    only_stable_features: false,
+    legacy_exceptions: true,
+    names: true,
+    producers: true,
+    places: false,
+};
+
 #[test]
 fn each_flag_chooses_an_option(rt: HostRuntime) {
-    for flag in [
-        Flag::Stable,
-        Flag::NoLegacy,
-        Flag::NoNames,
-        Flag::NoProducers,
-        Flag::Places,
-    ] {
-        assert!(rt; is_chosen(rt.alloc(), word(flag), chosen(flag)));
+    let rows = [
+        ("--", PLAIN),
+        (
+            "--stable",
+            Options {
+                only_stable_features: true,
+                ..PLAIN
+            },
+        ),
+        (
+            "--no-legacy",
+            Options {
+                legacy_exceptions: false,
+                ..PLAIN
+            },
+        ),
+        (
+            "--no-names",
+            Options {
+                names: false,
+                ..PLAIN
+            },
+        ),
+        (
+            "--no-producers",
+            Options {
+                producers: false,
+                ..PLAIN
+            },
+        ),
+        (
+            "--places=FILE",
+            Options {
+                places: true,
+                ..PLAIN
+            },
+        ),
+    ];
+    for (word, options) in rows {
+        assert!(rt; is_chosen(rt.alloc(), word, options));
     }
 }
 
-// A few words.
-#[derive(Clone, Copy)]
-struct Words<'a> {
-    words: [&'a str; 5],
-    count: usize,
-}
-
-impl<'a> Words<'a> {
-    // The program's name, and those of a row.
-    fn of(row: &'a [u8]) -> Self {
-        let mut words = Words {
-            words: ["wasm_rewriter"; 5],
-            count: 1,
-        };
-        let mut rest = row;
-        for at in 1..5 {
-            if !rest.is_empty() {
-                let (word, next) = cut(rest, b' ');
-                words.words[at] = text_of(word);
-                words.count = at + 1;
-                rest = next;
-            }
-        }
-        words
-    }
-
-    fn as_slice(&self) -> &[&'a str] {
-        &self.words[..self.count.min(5)]
-    }
-}
-
-fn is_wrong(rt: &HostRuntime, row: &[u8]) -> bool {
-    run_words(rt, Words::of(row).as_slice()) == 2
-}
+const WRONG: [&[&str]; 5] = [
+    &["wasm_rewriter"],
+    &["wasm_rewriter", "in"],
+    &["wasm_rewriter", "--fast", "in", "out"],
+    &["wasm_rewriter", "--places"],
+    &["wasm_rewriter", "--places", "-", "in", "-"],
+];
 
 #[test]
 fn wrong_words_are_refused(rt: HostRuntime) {
-    assert!(rt; is_wrong(&rt, b"") && is_wrong(&rt, b"in") && is_wrong(&rt, b"--fast in out"));
-    assert!(rt; is_wrong(&rt, b"--places") && is_wrong(&rt, b"--places - in -"));
+    for words in WRONG {
+        assert!(rt; run_words(&rt, words) == 2);
+    }
 }
 
-// Whether this is said of words that are wrong, or that ask for something else.
-fn is_said(alloc: Global, row: &[u8], text: &[u8]) -> bool {
-    match job_of(alloc, Words::of(row).as_slice()) {
+// Words that are wrong, or that ask for something else, and what is said of them.
+const TOLD: [(&[&str], &[u8]); 4] = [
+    (
+        &["wasm_rewriter", "input"],
+        b"error: the following required arguments were not provided:\n  <OUTPUT>\n\nUsage: wasm_rewriter <INPUT> <OUTPUT>\n\nFor more information, try '--help'.\n",
+    ),
+    (
+        &["wasm_rewriter", "input", "output", "other"],
+        b"error: unexpected argument 'other' found\n\nUsage: wasm_rewriter [OPTIONS] <INPUT> <OUTPUT>\n\nFor more information, try '--help'.\n",
+    ),
+    (
+        &["wasm_rewriter", "--places"],
+        b"error: a value is required for '--places <FILE>' but none was supplied\n\nFor more information, try '--help'.\n",
+    ),
+    (&["wasm_rewriter", "--version"], b"wasm_rewriter 0.28.0\n"),
+];
+
+fn is_said(alloc: Global, words: &[&str], text: &[u8]) -> bool {
+    match job_of(alloc, words) {
         Ok(_) => false,
         Err(error) => is_shown(alloc, &error, text),
     }
@@ -115,16 +114,9 @@ fn is_said(alloc: Global, row: &[u8], text: &[u8]) -> bool {
 
 #[test]
 fn wrong_words_and_the_version_are_told(rt: HostRuntime) {
-    let missing =
-        b"error: the following required arguments were not provided:\n  <OUTPUT>\n\nUsage: wasm_rewriter <INPUT> <OUTPUT>\n\nFor more information, try '--help'.\n";
-    assert!(rt; is_said(rt.alloc(), b"input", missing));
-    let other =
-        b"error: unexpected argument 'other' found\n\nUsage: wasm_rewriter [OPTIONS] <INPUT> <OUTPUT>\n\nFor more information, try '--help'.\n";
-    assert!(rt; is_said(rt.alloc(), b"input output other", other));
-    let no_value =
-        b"error: a value is required for '--places <FILE>' but none was supplied\n\nFor more information, try '--help'.\n";
-    assert!(rt; is_said(rt.alloc(), b"--places", no_value));
-    assert!(rt; is_said(rt.alloc(), b"--version", b"wasm_rewriter 0.28.0\n"));
+    for (words, text) in TOLD {
+        assert!(rt; is_said(rt.alloc(), words, text));
+    }
 }
 
 fn has_part<T: Display>(alloc: Global, value: &T, part: &str) -> bool {

@@ -1,0 +1,13 @@
+//! Arenas, forms of types and their records, and the table of types.
+
+mod arenas;
+mod chains;
+mod forms;
+mod locals;
+mod records;
+mod rows;
+mod steps;
+mod tables;
+mod values;
+mod words;
+mod writing;
