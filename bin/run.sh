@@ -11,7 +11,7 @@ if is_current "$PROVED"; then
 else
     program="$UNPROVED"
     if ! is_current "$program"; then
-        say "no program of these sources is there, so one is built without proof; \`bin/build $NAME\` would prove it, in hours"
+        say "there is no build of these sources yet (\`bin/build $NAME\` makes a proved one, in hours)"
         "$HERE/build" --unproved "$NAME" >&2 || exit 4
     fi
 fi

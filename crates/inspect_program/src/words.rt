@@ -12,7 +12,7 @@ use walrus_config::ModuleConfig;
 
 // Of what offsets are counted, what is no module, and whose version is told.
 const AFTER_HELP: &str =
-    "A fault's offset is counted from the start of INPUT, in bytes and in decimal.\n`wasm-objdump` and browsers write offsets in hexadecimal: offset 178 is theirs of 0xb2.\n\nOf a text (`.wat`) `wat2wasm` (WABT) and `wasm-as` (Binaryen) make a module, which is what INPUT has to be.\n\nThe version is that of the Rust crate `walrus` of which the library below is a port.";
+    "A fault's offset is counted from the start of INPUT, in bytes and in decimal.\n`wasm-objdump` and browsers write offsets in hexadecimal: offset 178 is theirs of 0xb2.\n\nOf a text (`.wat`) `wat2wasm` (WABT) and `wasm-as` (Binaryen) make a module, which is what INPUT has to be.\n\nThe version 0.28.0 is that of the Rust crate `walrus`, of which the library below is a port.";
 
 /// What the words ask for.
 #[derive(Clone, Copy)]
