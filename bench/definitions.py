@@ -1,5 +1,5 @@
 #!/usr/bin/env python3
-"""Counts the lines of definitions in the crates of the grammar, for docs/DEFINITIONS.md (*The measure*).
+"""Counts the lines of definitions in the crates of the grammar, which docs/DEFINITIONS.md names.
 
     bench/definitions.py [--files] [CRATE ..]      (CRATE/FILE for a file of its specs/ alone)
 

@@ -11,7 +11,7 @@ use Rattle.walrus_body_names.proofs.Same.{same_lists, same_on, same_then}
 use Rattle.walrus_body_names.specs.declared.facts.Facts.{Facts}
 use Rattle.walrus_body_names.specs.Facts.{IsTold}
 use Rattle.walrus_body_writer.specs.Spelled.{Text}
-use Rattle.walrus_body_names.specs.Names.{HaveSame, has_any, local_in, piece_names, segment_in, text_names}
+use Rattle.walrus_body_names.specs.Names.{HaveSame, function_in, has_any, local_in, piece_names, segment_in, text_names}
 
 -- a fold of steps that append is one list
 pub gathers : {S : Type 0} (list : S → List ℕ) (names : Instr → List ℕ) (ps : Text) (old last : S) → FoldsTo (λ (s : S) (p : Piece × InstrLocId) (t : S). list t ≡ list s ++ piece_names names p.0) old ps last
@@ -27,6 +27,11 @@ or_false false = refl
 pub or_none : (v w : Bool) → w ≡ false → v ≡ (v || w)
 or_none v w is = or_false v ∙ ap (λ (z : Bool). v || z) (sym is)
 
+-- what names nothing adds nothing
+pub nothing_named : (old names : List ℕ) → has_any names ≡ false → old ≡ old ++ names
+nothing_named old [] is = sym (append-nil old)
+nothing_named old (x ∷ xs) is = absurd cc
+
 any_append : (v : Bool) (xs ys : List ℕ) → ((v || has_any xs) || has_any ys) ≡ (v || has_any (xs ++ ys))
 any_append true xs ys = refl
 any_append false [] ys = refl
@@ -37,6 +42,7 @@ pub record Known (ps : Text) (old last : Facts) : Type 0 where
   pub size : last.size ≡ old.size + text_size ps
   pub marked : last.names_segment ≡ (old.names_segment || has_any (text_names segment_in ps))
   pub gathered : HaveSame last.found.items (old.found.items ++ text_names local_in ps)
+  pub referred : last.referred.items ≡ old.referred.items ++ text_names function_in ps
 
 pub knows : (ps : Text) (old last : Facts) → FoldsTo (λ (s : Facts) (p : Piece × InstrLocId) (t : Facts). IsTold s p.0 t) old ps last → Known ps old last
 knows [] old last h =
@@ -45,6 +51,7 @@ knows [] old last h =
       size = omega (arith, size);
       marked = ap (λ (s : Facts). s.names_segment) (sym h) ∙ or_false old.names_segment;
       gathered = same_lists last.found.items (old.found.items ++ []) (ap (λ (s : Facts). s.found.items) (sym h) ∙ sym (append-nil old.found.items));
+      referred = ap (λ (s : Facts). s.referred.items) (sym h) ∙ sym (append-nil old.referred.items);
     }
 knows (p ∷ ps) old last h =
     let first = h.1.counted in
@@ -58,4 +65,7 @@ knows (p ∷ ps) old last h =
           (same_then (h.0.found.items ++ text_names local_in ps) ((old.found.items ++ piece_names local_in p.0) ++ text_names local_in ps) (old.found.items ++ (piece_names local_in p.0 ++ text_names local_in ps))
           (same_on h.0.found.items (old.found.items ++ piece_names local_in p.0) (text_names local_in ps) h.1.gathered)
           (same_lists ((old.found.items ++ piece_names local_in p.0) ++ text_names local_in ps) (old.found.items ++ (piece_names local_in p.0 ++ text_names local_in ps)) (append_assoc old.found.items (piece_names local_in p.0) (text_names local_in ps))));
+      referred =
+          later.referred ∙ ap (λ (z : List ℕ). z ++ text_names function_in ps) h.1.referred
+          ∙ append_assoc old.referred.items (piece_names function_in p.0) (text_names function_in ps);
     }

@@ -3,7 +3,7 @@ use Rattle.std.specs.Prelude.{◌↔◌, ℕ, Bool, true, false, List, [], ◌�
 use Rattle.std.specs.List.Sorted.{IsStrictlySortedBy}
 use Rattle.std.specs.Ordering.{nat_cmp}
 use Rattle.walrus_instr.specs.declared.instr.Instr.{Instr}
-use Rattle.walrus_instr.specs.declared.instr.Instr.TheVariants.{Const, MemoryInit, DataDrop, ArrayNewData, ArrayInitData, LocalGet, LocalSet, LocalTee}
+use Rattle.walrus_instr.specs.declared.instr.Instr.TheVariants.{Const, MemoryInit, DataDrop, ArrayNewData, ArrayInitData, LocalGet, LocalSet, LocalTee, RefFunc}
 use Rattle.walrus_instr.specs.declared.seq.InstrLocId.{InstrLocId}
 use Rattle.walrus_instr.specs.declared.seq.InstrSeq.{InstrSeq}
 use Rattle.walrus_body_writer.specs.walrus_tree.Text.{Piece, Operator}
@@ -23,6 +23,11 @@ local_in (LocalGet local) = local ∷ []
 local_in (LocalSet local) = local ∷ []
 local_in (LocalTee local) = local ∷ []
 local_in _ = []
+
+-- the function to which an instruction refers, if it refers to one
+abbrev pub function_in : Instr → List ℕ
+function_in (RefFunc function) = function ∷ []
+function_in _ = []
 
 abbrev pub piece_names : (Instr → List ℕ) → Piece → List ℕ
 piece_names names (Operator around instr) = names instr

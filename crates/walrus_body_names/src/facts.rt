@@ -7,12 +7,12 @@ ghost use Rattle.walrus_body_writer.specs.walrus_tree.Text.{operators};
 ghost use Rattle.walrus_body_writer.specs.walrus_tree.Trees.{IsTree};
 ghost use Rattle.walrus_body_writer.specs.walrus_body_text.Walking.{IsCause};
 ghost use Rattle.walrus_body_writer.specs.walrus_body_text.Visiting.{text_size};
-ghost use Rattle.walrus_body_names.specs.Names.{AreSet, HaveSame, are_constants, has_any, is_constant, local_in, segment_in, text_names};
+ghost use Rattle.walrus_body_names.specs.Names.{AreSet, HaveSame, are_constants, function_in, has_any, is_constant, local_in, segment_in, text_names};
 
 use crate::distinct::distinct;
-use crate::names::{local_of, local_or, named_segments, names_segment};
+use crate::names::{local_of, local_or, named_segments, names_function, names_segment};
 use std::alloc::{AllocError, Global};
-use walrus_arena::{DataId, LocalId};
+use walrus_arena::{DataId, FunctionId, LocalId};
 use walrus_body_writer::body_env::BodyError;
 use walrus_body_writer::builder::FunctionBuilder;
 use walrus_body_writer::{Closer, TextVisitor, visit_once};
@@ -27,6 +27,8 @@ pub struct FunctionFacts {
     pub uses_data_segments: bool,
     /// The locals that it names, each once, by rising id.
     pub used_locals: Vec<LocalId>,
+    /// The functions to which it refers by `ref.func`, one for each time, in the order of its operators.
+    pub referred: Vec<FunctionId>,
 }
 
 // How many hints are kept at first. As many again come where locals have no room among them.
@@ -48,6 +50,8 @@ struct Facts {
     hints: Vec<u32>,
     // The local that was put there last, if there is one. Where an instruction names none, the hint of this one is tested.
     last: LocalId,
+    // The functions to which instructions refer.
+    referred: Vec<FunctionId>,
 }
 
 // Whether a hint shows that the local is among these.
@@ -115,18 +119,22 @@ fn gather_named(
     }
 }
 
-// Whether nothing is to be done for an instruction: it names no data segment, and a hint shows its local, if it names one. Else the
-// local found last is looked for in its place, so that no jump depends on whether it names one.
+// Whether nothing is to be done for an instruction: it names no data segment and refers to no function, and a hint shows its local, if it
+// names one. Else the local found last is looked for in its place, so that no jump depends on whether it names one.
 #[inline(always)]
 #[tactic(auto, using(crate::proofs::Same::told_if))]
 fn is_told(found: &[LocalId], hints: &[u32], last: &LocalId, instr: &Instr) -> bool
     ensures unmarked { OnTrue result (has_any (segment_in instr.now) ≡ false) }
     ensures told { OnTrue result (HaveSame found.now (found.now ++ local_in instr.now)) }
+    ensures alone { OnTrue result (has_any (function_in instr.now) ≡ false) }
 {
     if !is_there(found, hints, *local_or(instr, last)) {
         return false;
     }
     if names_segment(instr) {
+        return false;
+    }
+    if names_function(instr) {
         return false;
     }
     true
@@ -146,9 +154,15 @@ fn gather_all(facts: &mut Facts, instr: &Instr) -> Result<(), AllocError>
     ensures counted { facts.new.size ≡ facts.old.size }
     ensures marked { OnOk result (facts.new.names_segment ≡ (facts.old.names_segment || has_any (segment_in instr.now))) }
     ensures told { OnOk result (HaveSame facts.new.found.items (facts.old.found.items ++ local_in instr.now)) }
+    ensures referred { OnOk result (facts.new.referred.items ≡ facts.old.referred.items ++ function_in instr.now) }
     ensures unmarked { OnErr result (facts.new.names_segment ≡ facts.old.names_segment) }
     ensures refused { OnErr result (facts.new.found.items ≡ facts.old.found.items) }
+    ensures alone { OnErr result (facts.new.referred.items ≡ facts.old.referred.items) }
 {
+    if let Instr::RefFunc { func } = instr {
+        facts.referred.push(*func)?;
+        return Ok(());
+    }
     gather_named(&mut facts.found, &mut facts.hints, instr)?;
     facts.names_segment = facts.names_segment || names_segment(instr);
     facts.last = last_or(facts.found.as_slice(), facts.last);
@@ -157,13 +171,15 @@ fn gather_all(facts: &mut Facts, instr: &Instr) -> Result<(), AllocError>
 
 // The same, most often straight.
 #[inline(always)]
-#[tactic(auto, using(crate::proofs::Gathering::or_none))]
+#[tactic(auto, using(crate::proofs::Gathering::or_none, crate::proofs::Gathering::nothing_named))]
 fn note(facts: &mut Facts, instr: &Instr) -> Result<(), AllocError>
     ensures counted { facts.new.size ≡ facts.old.size }
     ensures marked { OnOk result (facts.new.names_segment ≡ (facts.old.names_segment || has_any (segment_in instr.now))) }
     ensures told { OnOk result (HaveSame facts.new.found.items (facts.old.found.items ++ local_in instr.now)) }
+    ensures referred { OnOk result (facts.new.referred.items ≡ facts.old.referred.items ++ function_in instr.now) }
     ensures unmarked { OnErr result (facts.new.names_segment ≡ facts.old.names_segment) }
     ensures refused { OnErr result (facts.new.found.items ≡ facts.old.found.items) }
+    ensures alone { OnErr result (facts.new.referred.items ≡ facts.old.referred.items) }
 {
     if is_told(
         facts.found.as_slice(),
@@ -198,7 +214,7 @@ impl TextVisitor for Facts {
     }
 }
 
-/// The size of a body, whether it names a data segment, and the locals that it names.
+/// The size of a body, whether it names a data segment, the locals that it names, and the functions to which it refers.
 ///
 /// # Errors
 ///
@@ -209,6 +225,7 @@ pub fn emit_facts(alloc: Global, body: &FunctionBuilder) -> Result<FunctionFacts
     ensures size { IfOk result (λ facts. facts.size ≡ text_size (operators (seqs_of body.now) 0)) }
     ensures segments { IfOk result (λ facts. facts.uses_data_segments ≡ has_any (text_names segment_in (operators (seqs_of body.now) 0))) }
     ensures locals { IfOk result (λ facts. AreSet (text_names local_in (operators (seqs_of body.now) 0)) facts.used_locals.items) }
+    ensures referred { IfOk result (λ facts. facts.referred.items ≡ text_names function_in (operators (seqs_of body.now) 0)) }
     ensures refused { IfErr result (IsCause (seqs_of body.now)) }
 {
     let hints = vec![in alloc; 0; HINTS]?;
@@ -218,12 +235,14 @@ pub fn emit_facts(alloc: Global, body: &FunctionBuilder) -> Result<FunctionFacts
         found: Vec::new(alloc),
         hints,
         last: LocalId::from_index(0),
+        referred: Vec::new(alloc),
     };
     visit_once(alloc, &mut facts, body)?;
     let Facts {
         size,
         names_segment: uses_data_segments,
         found,
+        referred,
         ..
     } = facts;
     let used_locals = distinct(found)?;
@@ -231,6 +250,7 @@ pub fn emit_facts(alloc: Global, body: &FunctionBuilder) -> Result<FunctionFacts
         size,
         uses_data_segments,
         used_locals,
+        referred,
     })
 }
 

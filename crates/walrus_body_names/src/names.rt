@@ -7,7 +7,7 @@ ghost use Rattle.walrus_body_writer.specs.walrus_tree.walrus_builder.Functions.{
 ghost use Rattle.walrus_body_writer.specs.walrus_tree.Text.{operators};
 ghost use Rattle.walrus_body_writer.specs.walrus_tree.Trees.{IsTree};
 ghost use Rattle.walrus_body_writer.specs.walrus_body_text.Walking.{IsCause};
-ghost use Rattle.walrus_body_names.specs.Names.{has_any, local_in, segment_in, text_names};
+ghost use Rattle.walrus_body_names.specs.Names.{function_in, has_any, local_in, segment_in, text_names};
 
 use std::alloc::{AllocError, Global};
 use walrus_arena::{DataId, LocalId};
@@ -90,6 +90,14 @@ pub(crate) fn names_segment(instr: &Instr) -> bool
             | Instr::ArrayNewData { .. }
             | Instr::ArrayInitData { .. }
     )
+}
+
+/// Whether it refers to a function.
+#[inline(always)]
+pub(crate) fn names_function(instr: &Instr) -> bool
+    ensures { result ≡ has_any (function_in instr.now) }
+{
+    matches!(instr, Instr::RefFunc { .. })
 }
 
 // Gathers data segments.

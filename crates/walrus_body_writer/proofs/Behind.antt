@@ -12,9 +12,9 @@ use Rattle.walrus_body_text.specs.walrus_tree.Trees.{IsTree}
 use Rattle.walrus_body_writer.specs.declared.output.Output.{Output}
 use Rattle.walrus_body_writer.specs.Outputs.{IsAside, IsSame, IsTaken, Wrote, is_short}
 use Rattle.walrus_body_writer.specs.Spelled.{Text}
-use Rattle.walrus_body_writer.specs.Refusals.{IsRefusal, LeavesOff, fault_of}
+use Rattle.walrus_body_writer.specs.Refusals.{IsRefusal, IsStraightRefusal, LeavesOff, fault_of}
 use Rattle.walrus_body_writer.proofs.Outs.{wrote_none, wrote_same, wrote_taken}
-use Rattle.walrus_body_writer.proofs.Refused.{refusal, wants}
+use Rattle.walrus_body_writer.proofs.Refused.{refusal, straight_refusal, wants}
 
 pub on_true : (x : Bool) (P : Type 0) → x ≡ true → OnTrue x P → P
 on_true x P is h = let F : Bool → Type 0 = λ z. OnTrue z P in subst F is h
@@ -34,6 +34,20 @@ module _ (look : Look) (b c : List InstrSeq) (k : ℕ) (is : c ≡ b) (first : k
       let F : List InstrSeq → Type 0 = λ z. IsTree z k → ⊥ in
       let G : ℕ → Type 0 = λ n. IsTree b n → ⊥ in
       subst G first (subst F is h)
+
+  -- a body that was written straight
+  pub straight : (old new : Output) → Wrote look c (operators c k) old new → Wrote look b (operators b 0) old new
+  straight old new w =
+      let F : List InstrSeq → Type 0 = λ z. Wrote look z (operators z k) old new in
+      let G : ℕ → Type 0 = λ n. Wrote look b (operators b n) old new in
+      subst G first (subst F is w)
+
+  pub refused_straight : (old new : Output) (e : PairError) (fault : BodyError) → fault ≡ fault_of e → (IsTree c k → LeavesOff look c (operators c k) old e new) → IsTree b k → IsStraightRefusal look b old fault new
+  refused_straight old new e fault it left tree =
+      let F : List InstrSeq → Type 0 = λ z. IsTree z k → LeavesOff look z (operators z k) old e new in
+      let G : ℕ → Type 0 = λ n. LeavesOff look b (operators b n) old e new in
+      let H : BodyError → Type 0 = λ f. IsStraightRefusal look b old f new in
+      subst H (sym it) (straight_refusal look b old (subst (IsTree b) first tree) e new (subst G first (subst F is left tree)))
 
   module _ (start more old new : Output) (aside : IsAside old start) (taken : IsTaken more old new) where
     on : (t : Text) → Wrote look b t start more → Wrote look b t old new

@@ -5,3 +5,4 @@ mod Behind
 mod Straight
 mod Steps
 mod Runs
+mod Fronts

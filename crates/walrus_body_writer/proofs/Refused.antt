@@ -24,7 +24,7 @@ use Rattle.walrus_body_text.specs.Doing.{piece_of}
 use Rattle.walrus_body_writer.specs.Emitting.{IsDone}
 use Rattle.walrus_body_writer.specs.Spelled.{Text, written, written_instr}
 use Rattle.walrus_body_writer.specs.Outputs.{PutsIf, IsPut, Wrote}
-use Rattle.walrus_body_writer.specs.Refusals.{Gives, IsDue, IsLarge, IsRefusal, LeavesOff, fault_of, value_in}
+use Rattle.walrus_body_writer.specs.Refusals.{Gives, IsDue, IsLarge, IsRefusal, IsStraightRefusal, LeavesOff, fault_of, value_in}
 
 -- where no number can be too great, any cause will do
 pub gives_more : {A : Type 0} (large : Type 0) (x : Or A) (e : PairError) → Gives ⊥ x (Err e) → Gives large x (Err e)
@@ -142,3 +142,12 @@ refusal look b old tree errors.Select new h = (tree, errors.Select, refl, h)
 refusal look b old tree errors.Alignment new h = (tree, errors.Alignment, refl, h)
 refusal look b old tree errors.TypeIndex new h = (tree, errors.TypeIndex, refl, h)
 refusal look b old tree errors.Memory new h = h
+
+pub straight_refusal : (look : Look) (b : List InstrSeq) (old : Output) → IsTree b 0 → (e : PairError) (new : Output) → LeavesOff look b (operators b 0) old e new → IsStraightRefusal look b old (fault_of e) new
+straight_refusal look b old tree (errors.Unknown s) new h = (tree, errors.Unknown s, refl, h)
+straight_refusal look b old tree errors.SharedType new h = (tree, errors.SharedType, refl, h)
+straight_refusal look b old tree errors.ContinuationType new h = (tree, errors.ContinuationType, refl, h)
+straight_refusal look b old tree errors.Select new h = (tree, errors.Select, refl, h)
+straight_refusal look b old tree errors.Alignment new h = (tree, errors.Alignment, refl, h)
+straight_refusal look b old tree errors.TypeIndex new h = (tree, errors.TypeIndex, refl, h)
+straight_refusal look b old tree errors.Memory new h = tt

@@ -85,3 +85,11 @@ pub record Wrote (look : Look) (b : List InstrSeq) (t : Text) (old new : Output)
   pub places : new.places.items ≡ (if old.keeps_places then old.places.items ++ text_places look b (length old.bytes.items) t else old.places.items)
   pub keeps : new.keeps_places ≡ old.keeps_places
   pub written : AreWritten look b t
+
+-- what was there stands at the front of the bytes and of the places
+pub record StandsFirst (old new : Output) : Type 0 where
+  pub more : List ℕ
+  pub further : List (InstrLocId × ℕ)
+  pub bytes : new.bytes.items ≡ old.bytes.items ++ more
+  pub places : new.places.items ≡ old.places.items ++ further
+  pub keeps : new.keeps_places ≡ old.keeps_places

@@ -100,3 +100,9 @@ abbrev pub IsRefusal : Look → List InstrSeq → Output → BodyError → Outpu
 IsRefusal look b old faults.NoTree new = (IsTree b 0 → ⊥) × (new ≡ old)
 IsRefusal look b old faults.Memory new = LeavesOff look b (operators b 0) old errors.Memory new
 IsRefusal look b old fault new = IsTree b 0 × (e : PairError) × (fault ≡ fault_of e) × LeavesOff look b (operators b 0) old e new
+
+-- the same of a body that is written straight: where its sequences form no tree, or memory was wanted, whatever was written stays
+abbrev pub IsStraightRefusal : Look → List InstrSeq → Output → BodyError → Output → Type 0
+IsStraightRefusal look b old faults.NoTree new = IsTree b 0 → ⊥
+IsStraightRefusal look b old faults.Memory new = Unit {0}
+IsStraightRefusal look b old fault new = IsTree b 0 × (e : PairError) × (fault ≡ fault_of e) × LeavesOff look b (operators b 0) old e new

@@ -13,9 +13,9 @@ ghost use Rattle.walrus_body_writer.specs.Spelled.{written, written_instr};
 ghost use Rattle.walrus_body_text.specs.Walking.{state};
 ghost use Rattle.walrus_body_writer.specs.Emitting.{GoesOff, GoesOn, IsDone, Writes};
 ghost use Rattle.walrus_body_writer.specs.Numbers.{look_of};
-ghost use Rattle.walrus_body_writer.specs.Outputs.{IsEnded, IsPut, Wrote};
+ghost use Rattle.walrus_body_writer.specs.Outputs.{IsEnded, IsPut, StandsFirst, Wrote};
 ghost use Rattle.walrus_body_text.specs.Tested.{Skips};
-ghost use Rattle.walrus_body_writer.specs.Refusals.{IsLarge, IsRefusal, LeavesOff, value_in};
+ghost use Rattle.walrus_body_writer.specs.Refusals.{IsLarge, IsRefusal, IsStraightRefusal, LeavesOff, value_in};
 
 use crate::frequent::{append_end, append_frequent, append_holder};
 use crate::numbers::{Numbers, Written};
@@ -133,7 +133,8 @@ fn write_instr(
     at: usize,
     out: &mut Output,
 ) -> Result<(), PairError>
-    ensures { (ts : List Todo) → Writes (look_of numbers.now) seqs.now (Met.AnInstr id at) (state ts depths.now) out.old out.new result }
+    ensures written { (ts : List Todo) → Writes (look_of numbers.now) seqs.now (Met.AnInstr id at) (state ts depths.now) out.old out.new result }
+    ensures front { StandsFirst out.old out.new }
 {
     let Some(seq) = seq_at(seqs, id) else {
         return Ok(());
@@ -188,7 +189,8 @@ fn write_met(
     met: Met,
     out: &mut Output,
 ) -> Result<(), PairError>
-    ensures { (ts : List Todo) → Writes (look_of numbers.now) seqs.now met (state ts depths.now) out.old out.new result }
+    ensures written { (ts : List Todo) → Writes (look_of numbers.now) seqs.now met (state ts depths.now) out.old out.new result }
+    ensures front { StandsFirst out.old out.new }
 {
     match met {
         Met::AnInstr(seq, at) => write_instr(alloc, numbers, seqs, depths, seq, at, out),
@@ -208,6 +210,7 @@ fn write_plain(
     ensures on { IfOk result (λ next. GoesOn (look_of numbers.now) seqs.now depths.now (Todo.Inside place) (Todo.Inside next) out.old out.new) }
     ensures tested { IfOk result (λ next. Skips seqs.now depths.now (Todo.Inside place) (Todo.Inside next)) }
     ensures off { IfErr result (λ e. GoesOff (look_of numbers.now) seqs.now depths.now (Todo.Inside place) e out.old out.new) }
+    ensures front { StandsFirst out.old out.new }
 {
     let Some(seq) = seq_at(seqs, place.seq) else {
         return Ok(place);
@@ -238,6 +241,7 @@ fn write_tree(
     ensures tree { IfOk result (λ fine. MatchBool fine (IsTree seqs.now entry) (IsTree seqs.now entry → ⊥)) }
     ensures written { IfOk result (λ fine. OnTrue fine (Wrote (look_of numbers.now) seqs.now (operators seqs.now entry) out.old out.new)) }
     ensures left { IfErr result (λ e. IsTree seqs.now entry → LeavesOff (look_of numbers.now) seqs.now (operators seqs.now entry) out.old e out.new) }
+    ensures front { StandsFirst out.old out.new }
 {
     walrus_body_text::tree::laws::trees_are_nested();
     walrus_body_text::tree::laws::text_is_plain();
@@ -302,6 +306,37 @@ pub fn emit_instructions(
                 Ok(()) => Err(fault_of(error)),
                 Err(_) => Err(BodyError::Memory),
             },
+            Ok(false) => Err(BodyError::NoTree),
+            Err(_) => Err(BodyError::Memory),
+        },
+    }
+}
+
+/// The same, straight behind what was written: a refused call leaves what was there at the front, and behind it a first part of what it
+/// writes.
+///
+/// # Errors
+///
+/// As those of [`emit_instructions`]; but where it is `NoTree`, or memory was wanted, anything may stand behind what was there.
+pub fn write_instructions(
+    alloc: Global,
+    body: &FunctionBuilder,
+    function: FunctionId,
+    maps: &IdsToIndices,
+    out: &mut Output,
+) -> Result<(), BodyError>
+    ensures tree { OnOk result (IsTree (seqs_of body.now) 0) }
+    ensures written { OnOk result (Wrote (number_of (indices maps.now) function) (seqs_of body.now) (operators (seqs_of body.now) 0) out.old out.new) }
+    ensures refused { IfErr result (λ fault. IsStraightRefusal (number_of (indices maps.now) function) (seqs_of body.now) out.old fault out.new) }
+    ensures front { StandsFirst out.old out.new }
+{
+    let entry = body.func_body_id();
+    let numbers = Numbers { maps, function };
+    match write_tree(alloc, &numbers, body.seqs(), entry, out) {
+        Ok(true) => Ok(()),
+        Ok(false) => Err(BodyError::NoTree),
+        Err(error) => match check_tree(alloc, body, entry) {
+            Ok(true) => Err(fault_of(error)),
             Ok(false) => Err(BodyError::NoTree),
             Err(_) => Err(BodyError::Memory),
         },

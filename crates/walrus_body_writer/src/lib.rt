@@ -8,7 +8,7 @@ mod operators;
 mod output;
 mod refusal;
 
-pub use emit::emit_instructions;
+pub use emit::{emit_instructions, write_instructions};
 pub use output::Output;
 pub use refusal::fault_of;
 pub use walrus_body_text::{Closer, TextVisitor, body_size, visit_once, visit_text};

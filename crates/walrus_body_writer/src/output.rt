@@ -151,4 +151,13 @@ impl Output {
         write_operator(&mut self.bytes, operator)?;
         self.end(place, at)
     }
+    /// Forgets what was written, and keeps its memory.
+    pub fn clear(&mut self)
+        ensures bytes { self.new.bytes.items ≡ [] }
+        ensures places { self.new.places.items ≡ [] }
+        ensures keeps { self.new.keeps_places ≡ self.old.keeps_places }
+    {
+        self.bytes.clear();
+        self.places.clear();
+    }
 }

@@ -141,6 +141,17 @@ impl ProducerField {
     }
 }
 
+// Equal fields.
+fn copies(alloc: Global, fields: &[ProducerField]) -> Result<Vec<ProducerField>, AllocError>
+    ensures { IfOk result (λ copies. fields_of copies.items ≡ fields_of fields.now) }
+{
+    let mut copies = Vec::new(alloc);
+    for field in fields {
+        copies.push(field.clone()?)?;
+    }
+    Ok(copies)
+}
+
 impl ModuleProducers {
     /// No fields. Takes no memory.
     pub fn new(alloc: Global) -> Self
@@ -157,6 +168,21 @@ impl ModuleProducers {
         ensures { result ≡ fields.items }
     {
         ModuleProducers { alloc, fields }
+    }
+
+    /// Equal producers.
+    ///
+    /// # Errors
+    ///
+    /// Want of memory.
+    pub fn clone(&self) -> Result<Self, AllocError>
+        ensures { IfOk result (λ copy. fields_of copy ≡ fields_of self.now) }
+    {
+        let fields = copies(self.alloc, self.fields.as_slice())?;
+        Ok(ModuleProducers {
+            alloc: self.alloc,
+            fields,
+        })
     }
 
     /// The fields, in their order.

@@ -1,5 +1,4 @@
 mod Counting
-mod Gathers
 mod Marks
 mod Orders
 mod Zips

@@ -1,19 +1,12 @@
 -- What is known of the bodies of a module before they are written.
-use Rattle.std.specs.Prelude.{ℕ, ◌≡◌, List, [], ◌∷◌}
-use Rattle.walrus_instr.specs.declared.instr.Instr.{Instr}
-use Rattle.walrus_instr.specs.declared.instr.Instr.TheVariants.{RefFunc}
+use Rattle.std.specs.Prelude.{ℕ, ◌≡◌}
 use Rattle.walrus_body_names.specs.walrus_body_writer.walrus_body_text.Visiting.{text_size}
 use Rattle.walrus_body_names.specs.walrus_body_writer.walrus_tree.walrus_builder.Functions.{seqs_of}
 use Rattle.walrus_body_names.specs.walrus_tree.Text.{operators}
 use Rattle.walrus_body_names.specs.walrus_tree.Trees.{IsTree}
-use Rattle.walrus_body_names.specs.Names.{AreSet, has_any, local_in, segment_in, text_names}
+use Rattle.walrus_body_names.specs.Names.{AreSet, function_in, has_any, local_in, segment_in, text_names}
 use Rattle.walrus_module.specs.walrus_local_function.declared.local_function.LocalFunction.{LocalFunction}
 use Rattle.walrus_emit_numbers.specs.declared.facts.BodyFacts.{BodyFacts}
-
--- the function to which an instruction refers, if it refers to one
-abbrev pub function_in : Instr → List ℕ
-function_in (RefFunc function) = function ∷ []
-function_in _ = []
 
 -- this is known of a function and its body
 pub record AreFacts (entry : ℕ × LocalFunction) (facts : BodyFacts) : Type 0 where

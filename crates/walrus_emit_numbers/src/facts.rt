@@ -7,7 +7,6 @@ ghost use Rattle.walrus_module.specs.walrus_collections.LookUps.{local_entries};
 ghost use Rattle.walrus_emit_numbers.specs.Facts.{AreFacts};
 ghost use Rattle.walrus_emit_numbers.specs.Refusals.{IsRefused};
 
-use crate::referred::named_functions;
 use std::alloc::Global;
 use walrus_arena::{FunctionId, LocalId};
 use walrus_errors::Result;
@@ -35,13 +34,12 @@ fn facts_at(alloc: Global, function: FunctionId, local: &LocalFunction) -> Resul
     ensures refused { IfErr result IsRefused }
 {
     let facts = local.emit_facts(alloc)?;
-    let referred = named_functions(alloc, local.builder())?;
     Ok(BodyFacts {
         function,
         size: facts.size,
         uses_data_segments: facts.uses_data_segments,
         used_locals: facts.used_locals,
-        referred,
+        referred: facts.referred,
     })
 }
 

@@ -7,11 +7,9 @@ mod facts;
 mod give;
 mod numbers;
 mod order;
-mod referred;
 mod turns;
 
 pub use declared::undeclared;
 pub use facts::{BodyFacts, facts_of};
 pub use numbers::number;
 pub use order::{function_order, names_data};
-pub use referred::named_functions;

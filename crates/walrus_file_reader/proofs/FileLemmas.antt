@@ -1,15 +1,16 @@
 -- Lemmas: a header, sections to the last byte, and what is missing there.
-use Rattle.std.specs.Prelude.{ℕ, zero, suc, ◌+◌, ◌-◌, ◌<◌, ◌≡◌, ◌==◌, ◌&&◌, ◌⊎◌, Bool, true, false, List, length, fold, Result, Ok, Err, refl}
+use Rattle.std.specs.Prelude.{ℕ, zero, suc, ◌+◌, ◌-◌, ◌<◌, ◌≡◌, ◌==◌, ◌&&◌, ◌⊎◌, Bool, true, false, List, length, fold, Result, Ok, Err, IfErr, refl}
 use Rattle.std.proofs.Common.{ap, sym, ◌∙◌, subst, arith, length-drop, inl, inr}
 use Rattle.std.proofs.lemmas.Bool.{false≢true, eqb-true}
 use Rattle.std.proofs.lemmas.List.{length-append}
 use Rattle.wasm_features.specs.declared.WasmFeatures.{WasmFeatures}
 use Rattle.wasm_reader.specs.Cursor.{Cursor, Window, rest, end_of}
 use Rattle.wasm_reader.specs.Reading.{plain}
-use Rattle.walrus_section_frames.specs.walrus_known_sections.wasm_sections.wasm_grammar.wasm_formats.Stops.{Count, Header, Stop, stop, Parsing, ◌>>=◌}
+use Rattle.wasm_reader.specs.declared.error.ErrorKind.TheVariants as kinds
+use Rattle.walrus_section_frames.specs.walrus_known_sections.wasm_sections.wasm_grammar.wasm_formats.Stops.{Count, Header, Read, Stop, stop, Parsing, ◌>>=◌}
 use Rattle.walrus_section_frames.specs.walrus_known_sections.wasm_sections.wasm_grammar.wasm_formats.Formats.{Small, done_is, done_refused, step_ok, step_err}
 use Rattle.walrus_section_frames.specs.walrus_known_sections.wasm_sections.wasm_grammar.wasm_formats.Files.{parse_all, ended_at}
-use Rattle.walrus_section_frames.specs.walrus_known_sections.wasm_sections.wasm_file_formats.Headers.{behind, behind_is, parted_ok}
+use Rattle.walrus_section_frames.specs.walrus_known_sections.wasm_sections.wasm_file_formats.Headers.{behind, behind_is, parted_ok, parted_err}
 use Rattle.walrus_section_frames.specs.walrus_known_sections.wasm_sections.wasm_grammar.States.{State, nothing_yet}
 use Rattle.walrus_section_frames.specs.walrus_known_sections.wasm_sections.Laws.{ReadsSections, StopsSections}
 use Rattle.walrus_section_frames.specs.walrus_known_sections.wasm_sections.Modules.{magic, header, has_bodies, has_data, FileEntry, file}
@@ -17,14 +18,14 @@ use Rattle.walrus_section_frames.specs.walrus_known_sections.wasm_sections.Modul
 use Rattle.walrus_section_frames.specs.walrus_known_sections.wasm_sections.Sections.{SectionEntry, section_entry, section_takes, next}
 use Rattle.walrus_section_reader.specs.declared.fault.Fault.{Fault}
 use Rattle.walrus_section_reader.specs.declared.fault.FaultKind.TheVariants as faults
-use Rattle.walrus_section_reader.specs.Faults.{fault_of, error_of, IsMemory}
+use Rattle.walrus_section_reader.specs.Faults.{fault_of, error_of, trouble_of, IsMemory}
 use Rattle.walrus_section_reader.specs.Parses.{stop_of, ParsesExactly, FailsAs, ParsesWhole}
 use Rattle.walrus_section_reader.specs.Repeats.{same_end, fails_at, fails_then}
 use Rattle.walrus_section_reader.specs.Steps.{put_all, all_by, all_steps_are}
 use Rattle.walrus_section_reader.specs.Windows.{Runs}
 use Rattle.walrus_code_reader.specs.Code.{code_place}
 use Rattle.walrus_file_reader.specs.Contents.{section_step}
-use Rattle.walrus_file_reader.specs.Files.{rounds, with_all, sections_to_end, file_steps, FaultOf, IsRefused}
+use Rattle.walrus_file_reader.specs.Files.{rounds, with_all, sections_to_end, file_steps, FaultOf, HasHeader, IsRefused}
 
 pub handed_whole : {S X : Type 0} (p : List ℕ → Result S Stop) (view : X → S) (now : Cursor) (result : Result X Fault) (d e : Fault) → result ≡ Err d → d ≡ e
     → ParsesWhole p view now (Err e) → ParsesWhole p view now result
@@ -105,6 +106,23 @@ behind_header old new x h =
     let within = h.moves.within (omega (arith, size, whole, m)) in
     omega (arith, size, whole, m, n, width, starts, within)
 
+-- where there is none, it isn't memory that is wanted
+pub no_memory : (old new : Cursor) (result : Result (Unit {0}) Fault) (d e : Fault) → result ≡ Err d → d ≡ e → ParsesExactly {X = Unit {0}} header.parse plain old new (Err e)
+    → IfErr result (λ fault. IsMemory fault → HasHeader (rest old))
+no_memory old new result d e is same h =
+    subst (λ (r : Result (Unit {0}) Fault). IfErr r (λ fault. IsMemory fault → HasHeader (rest old))) (sym (is ∙ ap Err same)) (λ memory. absurd (clash memory))
+  where
+    told : trouble_of e.kind ≡ Header
+    told = ap (λ (s : Stop). s.trouble) (parted_err magic Header refl (length (rest old)) (behind magic (rest old)) (stop_of new e) h.value).1
+
+    clash : IsMemory e → ⊥
+    clash memory = let bad : Read kinds.Memory ≡ Header = sym (ap trouble_of memory) ∙ told in cc
+
+-- where it is there, it is
+pub header_there : (old mid : Cursor) (x : Unit {0}) (result : Result (Unit {0}) Fault) → ParsesExactly header.parse plain old mid (Ok x) → IfErr result (λ fault. IsMemory fault → HasHeader (rest old))
+header_there old mid x (Ok y) h = tt
+header_there old mid x (Err e) h = λ memory. (rest mid, behind_is magic (rest old) (rest mid) (parted_ok magic Header refl (length (rest old)) (behind magic (rest old)) (rest mid) x h.value))
+
 pub header_then : (s : State) (old mid : Cursor) (x : Unit {0}) (view : Unit {0} → State) (result : Result (Unit {0}) Fault) → ParsesExactly header.parse plain old mid (Ok x)
     → ParsesWhole (sections_to_end mid.window.features s) view mid result → ParsesWhole (file_steps old.window.features s) view old result
 header_then s old mid x view result h two =
@@ -174,12 +192,12 @@ file_read features bytes now s t x at is small h =
     step_ok ((file features).parse bytes) (put_all grammar.state_of) t done (λ y p q. (y, (file features).found bytes y small p, done_is (grammar.state_of y) t q))
 
 pub file_refused : (features : WasmFeatures) (bytes : List ℕ) (now : Cursor) (s : State) (view : Unit {0} → State) (e : Fault) → Begins features bytes now → s ≡ nothing_yet → Small bytes
-    → ParsesWhole (file_steps now.window.features s) view now (Err e) → IsRefused features bytes (error_of e)
-file_refused features bytes now s view e at is small h = (e, refl, go h.value)
+    → (IsMemory e → HasHeader (rest now)) → ParsesWhole (file_steps now.window.features s) view now (Err e) → IsRefused features bytes (error_of e)
+file_refused features bytes now s view e at is small header_is h = (e, refl, go h.value)
   where
     tells : (file features).parse bytes ≡ Err (stop_of now e) → (d : Stop) × StopsSections features bytes d × ((stop_of now e).trouble ≡ d.trouble) × (e.offset + d.left ≡ length bytes)
     tells p = (stop_of now e, (file features).told bytes (stop_of now e) small p, refl, omega (arith, h.place, at.place))
 
-    go : FailsAs now e (file_steps now.window.features s (rest now)) → FaultOf features bytes e ⊎ IsMemory e
+    go : FailsAs now e (file_steps now.window.features s (rest now)) → FaultOf features bytes e ⊎ (IsMemory e × HasHeader bytes)
     go (inl f) = inl (step_err ((file features).parse bytes) (put_all grammar.state_of) (stop_of now e) (sym (steps_at features bytes now s at is) ∙ f) tells (λ y _ q. done_refused (grammar.state_of y) (stop_of now e) q))
-    go (inr m) = inr m
+    go (inr m) = inr (m, subst HasHeader at.all (header_is m))

@@ -1,11 +1,12 @@
 -- A file from its first byte to its last, in words of the grammar.
-use Rattle.std.specs.Prelude.{ℕ, ◌+◌, ◌≡◌, ◌⊎◌, ◌&&◌, List, length, Result}
+use Rattle.std.specs.Prelude.{ℕ, ◌+◌, ◌≡◌, ◌⊎◌, ◌&&◌, List, ◌++◌, length, Result}
+use Rattle.std.proofs.Common.{ap, ◌∙◌}
 use Rattle.wasm_features.specs.declared.WasmFeatures.{WasmFeatures}
 use Rattle.walrus_section_frames.specs.walrus_known_sections.wasm_sections.wasm_grammar.wasm_formats.Stops.{Count, Stop, ◌>>=◌}
 use Rattle.walrus_section_frames.specs.walrus_known_sections.wasm_sections.wasm_grammar.wasm_formats.Files.{ended_at}
 use Rattle.walrus_section_frames.specs.walrus_known_sections.wasm_sections.wasm_grammar.States.{State}
-use Rattle.walrus_section_frames.specs.walrus_known_sections.wasm_sections.Laws.{StopsSections}
-use Rattle.walrus_section_frames.specs.walrus_known_sections.wasm_sections.Modules.{header, has_bodies, has_data}
+use Rattle.walrus_section_frames.specs.walrus_known_sections.wasm_sections.Laws.{ReadsSections, StopsSections}
+use Rattle.walrus_section_frames.specs.walrus_known_sections.wasm_sections.Modules.{header, magic, has_bodies, has_data}
 use Rattle.walrus_errors.specs.declared.error.ModuleError.{ModuleError}
 use Rattle.walrus_section_reader.specs.declared.fault.Fault.{Fault}
 use Rattle.walrus_section_reader.specs.Faults.{trouble_of, error_of, IsMemory}
@@ -31,6 +32,17 @@ file_steps features s bytes = header.parse bytes >>= λ h. sections_to_end featu
 abbrev pub FaultOf : WasmFeatures → List ℕ → Fault → Type 0
 FaultOf features bytes fault = (e : Stop) × StopsSections features bytes e × (trouble_of fault.kind ≡ e.trouble) × (fault.offset + e.left ≡ length bytes)
 
--- the first fault of the file at its place, or want of memory
+-- the file begins as files do
+abbrev pub HasHeader : List ℕ → Type 0
+HasHeader bytes = (later : List ℕ) × (bytes ≡ magic ++ later)
+
+-- the first fault of the file at its place, or want of memory behind the header
 abbrev pub IsRefused : WasmFeatures → List ℕ → ModuleError → Type 0
-IsRefused features bytes error = (fault : Fault) × (error_of fault ≡ error) × (FaultOf features bytes fault ⊎ IsMemory fault)
+IsRefused features bytes error = (fault : Fault) × (error_of fault ≡ error) × (FaultOf features bytes fault ⊎ (IsMemory fault × HasHeader bytes))
+
+-- what reads has a header
+abbrev pub ReadHasHeader : Type 0
+ReadHasHeader = (features : WasmFeatures) (bytes : List ℕ) (s : State) → ReadsSections features bytes s → HasHeader bytes
+
+pub read_has_header : ReadHasHeader
+read_has_header features bytes s reads = let split = reads.1.0 in (split.1, split.2 ∙ ap (λ (l : List ℕ). l ++ split.1) split.3)

@@ -1,11 +1,13 @@
 //! The whole file.
 
-ghost use Rattle.std.specs.Prelude.{◌≡◌, ◌+◌, IfErr, IfOk};
+ghost use Rattle.std.specs.Prelude.{◌≡◌, ◌+◌, IfErr, IfOk, OnOk};
 ghost use Rattle.walrus_section_frames.specs.walrus_known_sections.wasm_sections.Laws.{ReadsSections};
+ghost use Rattle.wasm_reader.specs.Cursor.{rest};
+ghost use Rattle.walrus_section_reader.specs.Faults.{IsMemory};
 ghost use Rattle.walrus_section_reader.specs.Parses.{ParsesWhole};
 ghost use Rattle.walrus_section_frames.specs.walrus_known_sections.State.{state_of};
 ghost use Rattle.walrus_code_reader.specs.Code.{code_place};
-ghost use Rattle.walrus_file_reader.specs.Files.{IsRefused, file_steps, rounds, sections_to_end};
+ghost use Rattle.walrus_file_reader.specs.Files.{HasHeader, IsRefused, file_steps, rounds, sections_to_end};
 
 use crate::entry::read_one;
 use crate::header::read_header;
@@ -59,7 +61,8 @@ fn read_file<'a>(
     reader: &mut BinaryReader<'a>,
 ) -> Result<()>
     requires { sections.old.offset ≡ code_place reader.old + 8 }
-    ensures { ParsesWhole (file_steps reader.old.window.features (state_of sections.old)) (λ _. state_of sections.new) reader.old result }
+    ensures header { IfErr result (λ fault. IsMemory fault → HasHeader (rest reader.old)) }
+    ensures file { ParsesWhole (file_steps reader.old.window.features (state_of sections.old)) (λ _. state_of sections.new) reader.old result }
 {
     read_header(reader)?;
     read_to_end(alloc, sections, reader)
@@ -69,13 +72,14 @@ fn read_file<'a>(
 ///
 /// # Errors
 ///
-/// The first fault of the file at its place, or want of memory.
+/// The first fault of the file at its place, or want of memory, which may stand in place of what comes behind the header.
 pub fn read_sections<'a>(
     alloc: Alloc,
     features: WasmFeatures,
     bytes: &'a [u8],
 ) -> Result<Sections<'a>, ModuleError>
     ensures read { IfOk result (λ sections. ReadsSections features bytes.now (state_of sections)) }
+    ensures header { OnOk result (HasHeader bytes.now) }
     ensures refused { IfErr result (λ error. IsRefused features bytes.now error) }
 {
     let mut reader = BinaryReader::new_features(bytes, 0, features);

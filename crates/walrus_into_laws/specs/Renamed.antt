@@ -1,6 +1,6 @@
 -- Items of a file with the numbers of their types sent elsewhere, those inside expressions too. Bodies aside.
 use Rattle.std.specs.Prelude.{ℕ}
-use Rattle.walrus_parse.specs.walrus_file_bodies.walrus_items_into.walrus_module_bodies.walrus_body_trees.walrus_meaning.walrus_local_function.walrus_body_locals.wasm_grammar.Modules.{Function, Module}
+use Rattle.walrus_named_bodies.specs.walrus_file_bodies.walrus_items_into.walrus_module_bodies.walrus_body_trees.walrus_meaning.walrus_local_function.walrus_body_locals.wasm_grammar.Modules.{Function, Module}
 pub use Rattle.wasm_normal_modules.specs.Modules.{by_types, each, retyped_element, retyped_expr, retyped_global, retyped_items, retyped_mode, retyped_origin, retyped_segment, retyped_table, retyped_tag}
 
 abbrev pub retyped_function : (ℕ → ℕ) → Function → Function

@@ -2,7 +2,7 @@
 
 ghost use Rattle.walrus_into_laws.specs.Groups.{GroupsMean, ReadTypesAreDeclared};
 
-use walrus_parse::file_bodies::items_into::functions_into::types_into::laws::new_types_stand;
+use walrus_named_bodies::file_bodies::items_into::functions_into::types_into::laws::new_types_stand;
 
 /// No type that was read is an entry type, which stands for a body's own block.
 pub fn read_types_are_declared()

@@ -1,7 +1,7 @@
 //! Laws of what was read of a file and put into a module: it fills the collections, and means what was read, renamed.
 #![tactic(auto)]
 
-ghost use Rattle.walrus_parse.specs.walrus_file_bodies.walrus_items_into.walrus_module_bodies.walrus_body_trees.walrus_meaning.walrus_local_function.walrus_body_locals.wasm_grammar.Modules.{Custom};
+ghost use Rattle.walrus_named_bodies.specs.walrus_file_bodies.walrus_items_into.walrus_module_bodies.walrus_body_trees.walrus_meaning.walrus_local_function.walrus_body_locals.wasm_grammar.Modules.{Custom};
 ghost use Rattle.walrus_into_laws.specs.Functions.{FunctionsFill};
 ghost use Rattle.walrus_into_laws.specs.Meaning.{ImportsMean, FunctionsMean, TablesMean, MemoriesMean, TagsMean, GlobalsMean, ExportsMean, StartMeans, ElementsMean, SegmentsMean, CustomsMean, ModuleMeans, OrderedStay};
 
@@ -79,8 +79,8 @@ pub fn customs_mean<B>()
 pub fn module_means()
     ensures { ModuleMeans }
 {
-    walrus_parse::spelled_modules::laws::read_sections_are_spelled();
-    walrus_parse::file_bodies::items_into::functions_into::types_into::laws::types_name_below();
+    walrus_named_bodies::spelled_modules::laws::read_sections_are_spelled();
+    walrus_named_bodies::file_bodies::items_into::functions_into::types_into::laws::types_name_below();
     groups::read_types_are_declared();
     groups::groups_mean();
 }
@@ -88,25 +88,27 @@ pub fn module_means()
 // Passed on to crates above, which then list this one alone.
 pub mod body_trees {
     pub mod laws {
-        pub use walrus_parse::body_trees::laws::{bodies_are_trees, bodies_mean_their_normal_form};
+        pub use walrus_named_bodies::file_bodies::body_trees::laws::{
+            bodies_are_trees, bodies_mean_their_normal_form,
+        };
     }
 }
 
 pub mod file_bodies {
     pub mod laws {
-        pub use walrus_parse::file_bodies::laws::bodies_read_files;
+        pub use walrus_named_bodies::file_bodies::laws::bodies_read_files;
     }
 }
 
 pub mod functions_into {
     pub mod laws {
-        pub use walrus_parse::file_bodies::items_into::functions_into::laws::read_functions_stand;
+        pub use walrus_named_bodies::file_bodies::items_into::functions_into::laws::read_functions_stand;
     }
 }
 
 pub mod items_into {
     pub mod laws {
-        pub use walrus_parse::file_bodies::items_into::laws::{
+        pub use walrus_named_bodies::file_bodies::items_into::laws::{
             filled_functions_stand, filled_modules_are_filed, named_locals_count,
         };
     }
@@ -114,7 +116,7 @@ pub mod items_into {
 
 pub mod module_env {
     pub mod laws {
-        pub use walrus_parse::file_bodies::items_into::module_env::laws::{
+        pub use walrus_named_bodies::file_bodies::items_into::module_env::laws::{
             blocks_are_named, picks_are_seen,
         };
     }
@@ -122,7 +124,7 @@ pub mod module_env {
 
 pub mod types_into {
     pub mod laws {
-        pub use walrus_parse::file_bodies::items_into::functions_into::types_into::laws::{
+        pub use walrus_named_bodies::file_bodies::items_into::functions_into::types_into::laws::{
             new_types_stand, types_name_below,
         };
     }

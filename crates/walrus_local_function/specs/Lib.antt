@@ -1,4 +1,5 @@
 pub mod Locals
+pub mod Refusals
 -- Passed on to crates above, which then list this one alone.
 pub use Rattle.walrus_function_parser.specs.walrus_body_parser as walrus_body_parser
 pub use Rattle.walrus_function_parser.specs.walrus_body_locals as walrus_body_locals

@@ -7,7 +7,7 @@ ghost use Rattle.walrus_index_maps.specs.Views.{indices};
 ghost use Rattle.walrus_body_names.specs.walrus_pairing.Looks.{number_of};
 ghost use Rattle.walrus_body_names.specs.walrus_tree.Text.{operators};
 ghost use Rattle.walrus_body_names.specs.walrus_tree.Trees.{IsTree};
-ghost use Rattle.walrus_body_names.specs.Names.{AreSet, are_constants, has_any, local_in, segment_in, text_names};
+ghost use Rattle.walrus_body_names.specs.Names.{AreSet, are_constants, function_in, has_any, local_in, segment_in, text_names};
 ghost use Rattle.walrus_body_names.specs.walrus_body_writer.walrus_body_text.Walking.{IsCause as IsTreeCause};
 ghost use Rattle.walrus_body_names.specs.walrus_body_writer.Outputs.{Wrote};
 ghost use Rattle.walrus_body_names.specs.walrus_body_writer.Refusals.{IsRefusal};
@@ -60,7 +60,7 @@ impl LocalFunction {
         used_data_segments(alloc, &self.builder)
     }
 
-    /// Its size, whether it names a data segment, and the locals that it names.
+    /// Its size, whether it names a data segment, the locals that it names, and the functions to which it refers by `ref.func`.
     ///
     /// # Errors
     ///
@@ -70,6 +70,7 @@ impl LocalFunction {
         ensures size { IfOk result (λ facts. facts.size ≡ text_size (operators (seqs_of self.now.builder) 0)) }
         ensures segments { IfOk result (λ facts. facts.uses_data_segments ≡ has_any (text_names segment_in (operators (seqs_of self.now.builder) 0))) }
         ensures locals { IfOk result (λ facts. AreSet (text_names local_in (operators (seqs_of self.now.builder) 0)) facts.used_locals.items) }
+        ensures referred { IfOk result (λ facts. facts.referred.items ≡ text_names function_in (operators (seqs_of self.now.builder) 0)) }
         ensures refused { IfErr result (IsTreeCause (seqs_of self.now.builder)) }
     {
         emit_facts(alloc, &self.builder)

@@ -1,11 +1,11 @@
 -- Lemmas: types of handlers aside, a sight tells the same.
-use Rattle.std.proofs.Common.{◌≡◌, ◌∙◌, ℕ, Bool, List, length, Option, Some, None, Result, Ok, Err, IfOk, IfErr, refl, sym, ap, subst}
+use Rattle.std.proofs.Common.{◌≡◌, ◌⊎◌, ◌∙◌, ℕ, Bool, List, length, Option, Some, None, Result, Ok, Err, IfOk, IfErr, OnOk, MatchResult, inl, inr, refl, sym, ap, subst}
 use Rattle.std.specs.Option.{is_some}
-use Rattle.wasm_reader.specs.Cursor.{Cursor, rest}
+use Rattle.wasm_reader.specs.Cursor.{Cursor, end_of, rest}
 use Rattle.walrus_forms.specs.declared.value.ValType.{ValType}
 use Rattle.walrus_index_maps.specs.Maps.{Ids}
 use Rattle.walrus_module_env.specs.walrus_body_parser.walrus_body_steps.Picks.{ArePicks}
-use Rattle.walrus_module_env.specs.walrus_body_parser.walrus_body_rules.wasm_body_grammar.wasm_formats.Stops.{TypeForm}
+use Rattle.walrus_module_env.specs.walrus_body_parser.walrus_body_rules.wasm_body_grammar.wasm_formats.Stops.{Stop, TypeForm}
 use Rattle.walrus_module_env.specs.walrus_body_parser.walrus_body_rules.Agreeing.{Sees}
 use Rattle.walrus_module_env.specs.walrus_body_parser.walrus_body_rules.Rules.{has_wide, type_test}
 use Rattle.walrus_module_env.specs.walrus_body_parser.walrus_body_rules.Sights.{Sight, block_of, function_block, look, room, written_block}
@@ -24,10 +24,13 @@ use Rattle.walrus_module_env.specs.Around.{IsFiled, sight_in}
 use Rattle.walrus_module_env.specs.Env.{is_wide_at, own_pick, params_at, results_at, tag_type_at}
 use Rattle.walrus_module_env.specs.Parsed.{FilesAreSeen}
 use Rattle.walrus_module_env.specs.walrus_body_parser.Points.{place_at}
+use Rattle.walrus_module_env.specs.walrus_body_parser.walrus_body_stack.walrus_body_env.declared.error.BodyError.{BodyError}
+use Rattle.walrus_module_env.specs.walrus_body_parser.walrus_body_stack.walrus_body_env.declared.error.BodyError.TheVariants.{Memory}
+use Rattle.walrus_module_env.specs.walrus_collections.walrus_local_function.walrus_body_locals.Calls.{IsFaultOf}
 use Rattle.walrus_module_env.specs.walrus_collections.walrus_local_function.walrus_function_parser.Parsed.{IsAround, Parses, Telling, seen_by}
 use Rattle.walrus_module_env.specs.Handled.{SeesAside}
 use Rattle.walrus_module_env.proofs.walrus_function_parser.Bodies.{declared_count, sees_more}
-use Rattle.walrus_module_bodies.specs.Reading.{AddsRuns, IsBodyAside}
+use Rattle.walrus_module_bodies.specs.Reading.{AddsRuns, IsBodyAside, IsBodyFault, IsReadAside}
 
 -- the results of some ids aside too, where these change no block type
 module _ (u : Sight) (r : ℕ → Option (List ValType)) (h : List ValType → List ValType → Option InstrSeqType) (alike : (id : ℕ) → block_of u (u.params id) (r id) ≡ block_of u (u.params id) (u.results id)) where
@@ -110,6 +113,24 @@ module _ (seen : FilesAreSeen) (e : ModuleEnv) (function : ℕ) (i : Ids) (s : S
     adds = subst (λ (x : Sight). AddsRuns x.function p.begins.declares.runs ls ms x.ids j) aside p.begins.declares.adds;
     stands = λ pick picks. p.stands pick (subst (λ (x : Sight). ArePicks x pick) (sym (later j)) (picks_aside (sight_in e function j) (results_at e.types.now) s.handler_type (λ id. refl) pick picks));
   }
+
+-- the function's parameters are what its indices name
+pub counted_read : (e : ModuleEnv) (function params : ℕ) (old : Cursor) (i j : Ids) (ls ms : List Local) (b : List Seq) → IsBodyAside e function (length (i.locals function)) old i j ls ms b → IsBodyAside e function params old i j ls ms b
+counted_read e function params old i j ls ms b read a filed =
+    let F : ℕ → Type 0 = λ n. IsFiled e i function n old.window.features a → IsReadAside e function n old i j ls ms b a in
+    subst F filed.locals_are (read a) filed
+
+pub counted_fault : (e : ModuleEnv) (function params : ℕ) (old : Cursor) (i : Ids) (fault : BodyError) → (fault ≡ Memory) ⊎ IsBodyFault e function (length (i.locals function)) old i fault
+    → (fault ≡ Memory) ⊎ IsBodyFault e function params old i fault
+counted_fault e function params old i fault (inl m) = inl m
+counted_fault e function params old i fault (inr stops) =
+    inr (λ a filed.
+    let F : ℕ → Type 0 = λ n. IsFiled e i function n old.window.features a → (t : Stop) × ((body a n (place_at e.code_start old)).parse (rest old) ≡ Err t) × IsFaultOf (end_of old) t fault in
+    subst F filed.locals_are (stops a) filed)
+
+pub of_kept : {T E P Q : Type 0} (r : Result T E) → MatchResult r (λ _. P) (λ _. Q) → OnOk r P
+of_kept (Ok x) p = p
+of_kept (Err e) p = tt
 
 pub of_ok : {T E : Type 0} {P Q : T → Type 0} (r : Result T E) → ((x : T) → P x → Q x) → IfOk r P → IfOk r Q
 of_ok (Ok x) f p = f x p

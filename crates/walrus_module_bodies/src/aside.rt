@@ -1,6 +1,6 @@
 //! A body is read beside some type for each handler.
 
-ghost use Rattle.std.specs.Prelude.{◌≡◌, ◌⊎◌, ◌<◌, ◌≤◌, ◌+◌, length, All, None, false, IfOk, IfErr};
+ghost use Rattle.std.specs.Prelude.{◌≡◌, ◌⊎◌, ◌<◌, ◌≤◌, ◌+◌, length, All, None, false, IfOk, IfErr, OnOk};
 ghost use Rattle.wasm_reader.specs.Cursor.{IsWithin, end_of, rest};
 ghost use Rattle.walrus_index_maps.specs.Views.{ids};
 ghost use Rattle.walrus_module_env.specs.walrus_body_parser.walrus_body_stack.walrus_body_env.declared.error.BodyError.TheVariants.{Memory as WantsMemory};
@@ -51,7 +51,7 @@ pub(crate) fn read_aside(
     ensures name { IfOk result (λ f. f.builder.name ≡ None) }
     ensures args { IfOk result (λ f. f.args ≡ args) }
     ensures stops { IfErr result (λ e. (e ≡ WantsMemory) ⊎ IsBodyFault env.now function (length args.items) body.entry (ids indices.old) e) }
-    ensures kept { Leaves function locals.old locals.new (ids indices.old) (ids indices.new) }
+    ensures kept { OnOk result (Leaves function locals.old locals.new (ids indices.old) (ids indices.new)) }
 {
     files_are_seen();
     let any = AnyHandler::new(env);
@@ -86,7 +86,7 @@ pub(crate) fn read_tree(
     ensures name { IfOk result (λ f. f.builder.name ≡ None) }
     ensures args { IfOk result (λ f. f.args ≡ args) }
     ensures stops { IfErr result (λ e. (e ≡ WantsMemory) ⊎ IsBodyFault env.now function (length args.items) body.entry (ids indices.old) e) }
-    ensures kept { Leaves function locals.old locals.new (ids indices.old) (ids indices.new) }
+    ensures kept { OnOk result (Leaves function locals.old locals.new (ids indices.old) (ids indices.new)) }
 {
     bodies_are_trees();
     read_aside(

@@ -1,6 +1,6 @@
 //! A body is read, and its handlers are given their types.
 
-ghost use Rattle.std.specs.Prelude.{◌≡◌, ◌⊎◌, ◌<◌, ◌≤◌, ◌+◌, length, All, None, IfErr, IfOk};
+ghost use Rattle.std.specs.Prelude.{◌≡◌, ◌⊎◌, ◌<◌, ◌≤◌, ◌+◌, length, All, None, IfErr, IfOk, OnOk};
 ghost use Rattle.wasm_reader.specs.Cursor.{IsWithin, end_of, rest};
 ghost use Rattle.walrus_index_maps.specs.Views.{ids};
 ghost use Rattle.walrus_function_types.specs.Growth.{Grows};
@@ -66,7 +66,7 @@ pub(crate) fn read_handled(
     ensures ty { IfOk result (λ f. f.builder.ty ≡ ty) }
     ensures name { IfOk result (λ f. f.builder.name ≡ None) }
     ensures args { IfOk result (λ f. f.args ≡ args) }
-    ensures kept { Leaves function locals.old locals.new (ids indices.old) (ids indices.new) }
+    ensures kept { OnOk result (Leaves function locals.old locals.new (ids indices.old) (ids indices.new)) }
 {
     picks_are_seen();
     handled_bodies_stand();

@@ -11,11 +11,12 @@ use Rattle.walrus_functions_into.specs.walrus_collections.walrus_local_function.
 use Rattle.walrus_functions_into.specs.walrus_collections.walrus_local_function.walrus_body_locals.walrus_body_env.declared.error.BodyError.{BodyError}
 use Rattle.walrus_functions_into.specs.walrus_collections.walrus_local_function.walrus_body_locals.walrus_body_env.declared.error.BodyError.TheVariants.{Memory}
 use Rattle.walrus_functions_into.specs.walrus_collections.walrus_local_function.walrus_function_parser.Parsed.{Telling, Parses, IsCause}
+use Rattle.walrus_functions_into.specs.walrus_collections.walrus_local_function.Refusals.{IsRefusal}
 use Rattle.wasm_run_names.specs.Picks.{block_pick}
 use Rattle.walrus_module_env.specs.declared.env.ModuleEnv.{ModuleEnv}
 use Rattle.walrus_module_env.specs.Filled.{AreFiled}
 use Rattle.walrus_module_env.specs.Around.{sight_in}
-use Rattle.walrus_module_env.specs.Parsed.{IsBodyOfFile, IsFaultInFile}
+use Rattle.walrus_module_env.specs.Parsed.{IsBodyOfFile, IsFaultInFile, IsFaultOfFile}
 use Rattle.walrus_module_env.proofs.AroundLemmas.{is_around, picks_are}
 
 module _ {V : Type 0} (e : ModuleEnv) (function : ℕ) (i : Ids) (told : Telling V) (params : ℕ) (old : Cursor) where
@@ -35,6 +36,9 @@ module _ {V : Type 0} (e : ModuleEnv) (function : ℕ) (i : Ids) (told : Telling
       → (fault ≡ Memory) ⊎ IsFaultInFile e function i told params old j fault
   is_fault j fault (inl m) = inl m
   is_fault j fault (inr cause) = inr (λ a h. cause a (is_around e i function params old.window.features a h))
+
+  pub is_refusal : (ls ms : List Local) (v w : V) (fault : BodyError) → IsRefusal (sight_in e function i) told params e.code_start old ls ms v w fault → IsFaultOfFile e function i told params old ls ms fault
+  is_refusal ls ms v w fault r = record { met = r.met; left = r.left; stops = is_fault r.met fault r.stops }
 
 pub of_ok : {T E : Type 0} (P Q : T → Type 0) (r : Result T E) → ((x : T) → P x → Q x) → IfOk r P → IfOk r Q
 of_ok P Q (Ok x) f p = f x p

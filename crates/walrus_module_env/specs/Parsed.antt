@@ -20,6 +20,9 @@ use Rattle.walrus_functions_into.specs.walrus_collections.walrus_local_function.
 use Rattle.walrus_functions_into.specs.walrus_collections.walrus_local_function.walrus_body_locals.wasm_normal_form.Trees.{tree_of}
 use Rattle.walrus_functions_into.specs.walrus_collections.walrus_local_function.walrus_body_locals.wasm_normal_form.Normal.{normal}
 use Rattle.walrus_functions_into.specs.walrus_collections.walrus_local_function.walrus_body_locals.walrus_body_env.declared.error.BodyError.{BodyError}
+use Rattle.walrus_functions_into.specs.walrus_collections.walrus_local_function.walrus_body_locals.walrus_body_env.declared.error.BodyError.TheVariants.{Memory}
+use Rattle.walrus_functions_into.specs.walrus_collections.walrus_local_function.walrus_body_locals.Locals.{Leaves}
+use Rattle.walrus_types.specs.walrus_items.declared.local.Local.{Local}
 use Rattle.walrus_functions_into.specs.walrus_collections.walrus_local_function.walrus_body_locals.walrus_body_nesting.Stands.{StandsAs}
 use Rattle.walrus_functions_into.specs.walrus_collections.walrus_local_function.walrus_function_parser.Parsed.{IsAround, Telling, StopsFor, Bars, Lacks}
 use Rattle.walrus_functions_into.specs.walrus_collections.walrus_local_function.walrus_body_locals.walrus_body_nesting.wasm_formats.wasm_features.declared.WasmFeatures.{WasmFeatures}
@@ -47,6 +50,12 @@ module _ {V : Type 0} (e : ModuleEnv) (function : ℕ) (i : Ids) (told : Telling
   IsFaultInFile j fault = (a : Around) → IsFiled e i function params old.window.features a
       → StopsFor (sight_in e function i) told params e.code_start old a fault ⊎ Bars (sight_in e function i) told params e.code_start old fault
       ⊎ Lacks (sight_in e function i) told params e.code_start old j fault
+
+  -- while it was read, the next indices of its function named the locals that were added, all or all but the last: in this map
+  pub record IsFaultOfFile (ls ms : List Local) (fault : BodyError) : Type 0 where
+    pub met : Ids
+    pub left : Leaves function ls ms i met
+    pub stops : (fault ≡ Memory) ⊎ IsFaultInFile met fault
 
 -- ---- laws
 

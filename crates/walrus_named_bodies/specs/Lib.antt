@@ -1,6 +1,7 @@
 pub mod Named
 pub mod Code
 pub mod Behind
+pub mod Parsed
 -- Passed on to crates above, which then list this one alone.
 pub use Rattle.walrus_payload_readers.specs.wasm_name_payloads as wasm_name_payloads
 pub use Rattle.walrus_locations.specs as walrus_locations

@@ -9,7 +9,7 @@ use Rattle.walrus_named_bodies.specs.walrus_item_names.walrus_module.declared.mo
 use Rattle.walrus_named_bodies.specs.walrus_item_names.walrus_module.walrus_body_writer.walrus_pairing.walrus_index_maps.Maps.{Ids}
 use Rattle.walrus_errors.specs.declared.error.ModuleError.{ModuleError}
 use Rattle.walrus_named_bodies.specs.walrus_item_names.walrus_module.walrus_body_writer.walrus_pairing.walrus_index_maps.declared.indices_to_ids.IndicesToIds.{IndicesToIds}
-use Rattle.walrus_parse.specs.Parsed.{IsModuleOf, IsReadAs, Leaves}
+use Rattle.walrus_named_bodies.specs.Parsed.{IsModuleOf, IsReadAs, Leaves}
 
 pub is_read : {B : Type 0} (m : Whole B) (config : ModuleConfig) (bytes : List ℕ) (own : ModuleConfig) (found : Ids) → m.config ≡ own → own ≡ config
     → IsModuleOf own bytes m.start m.producers (spaces m.types m.imports m.funcs m.tables m.memories m.tags m.globals m.exports m.elements m.data_segments m.customs) m.locals m.name found

@@ -36,7 +36,7 @@ sections_refused features bytes error short (fault, same, inl h) = inr (inr (rec
   stops = (h.0, (short, inl h.1), sym h.2, h.3);
   error_is = sym same ∙ error_is fault.kind fault.offset;
 }))
-sections_refused features bytes error short (fault, same, inr wants) = inl (sym same ∙ ap (λ (kind : FaultKind). error_at kind fault.offset) wants, short)
+sections_refused features bytes error short (fault, same, inr wants) = inl (sym same ∙ ap (λ (kind : FaultKind). error_at kind fault.offset) wants.0, short, wants.1)
 
 abbrev some_or : {X : Type 0} → X → Option X → X
 some_or other None = other

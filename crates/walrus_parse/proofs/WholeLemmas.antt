@@ -28,7 +28,8 @@ use Rattle.walrus_named_bodies.specs.walrus_file_bodies.walrus_module_bodies.Ste
 use Rattle.walrus_named_bodies.specs.walrus_file_bodies.walrus_module_bodies.declared.file.FileEnv.{FileEnv}
 use Rattle.walrus_named_bodies.specs.walrus_file_bodies.Laws.{BodiesReadFiles, BodiesStopFiles}
 use Rattle.walrus_named_bodies.specs.Code.{IsCodeRefusal}
-use Rattle.walrus_parse.specs.Parsed.{ReadsAs}
+use Rattle.walrus_named_bodies.specs.Parsed.{ReadsAs}
+use Rattle.walrus_file_reader.specs.Files.{read_has_header}
 use Rattle.walrus_parse.specs.Refusals.{IsRefusal}
 use Rattle.walrus_parse.proofs.RefusalLemmas.{fault_is}
 
@@ -89,7 +90,7 @@ refusal_typed left s features tags memories functions old error same (inr h) = i
 pub code_refused : {B : Type 0} → BodiesStopFiles B → (features : WasmFeatures) (bytes : List ℕ) (s : Sections) (begin : Option ℕ) (i : Ids) (m : Spaces B) (locals : List Local) (error : ModuleError)
     → IsShort bytes → All (λ b. b < 256) bytes → ReadsSections features bytes (state_of s) → IsFilledFrom s begin i m
     → IsCodeRefusal features s m.tags m.memories (bodies_in s m.functions) (state m.types locals i m.functions) error → IsRefusal features bytes error
-code_refused stop features bytes s begin i m locals error short small reads filled (inl memory) = inl (memory, short)
+code_refused stop features bytes s begin i m locals error short small reads filled (inl memory) = inl (memory, short, read_has_header features bytes (state_of s) reads)
 code_refused stop features bytes s begin i m locals error short small reads filled (inr h) =
     let t = stop features bytes s begin i m h.file locals h.fault small reads filled h.is_file h.stops in
     inr (inr (record {

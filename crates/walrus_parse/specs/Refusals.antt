@@ -5,6 +5,7 @@ use Rattle.walrus_named_bodies.specs.walrus_item_names.walrus_module.walrus_loca
 use Rattle.walrus_errors.specs.declared.error.ModuleError.{ModuleError}
 use Rattle.walrus_errors.specs.declared.error.ModuleError.TheVariants as errors
 use Rattle.walrus_errors.specs.Refusals.{refusal_of}
+use Rattle.walrus_file_reader.specs.Files.{HasHeader}
 use Rattle.walrus_named_bodies.specs.walrus_file_bodies.walrus_items_into.wasm_module_rules.wasm_modules.Modules.{IsShort, Stops}
 
 -- a trouble at its place in the file, as the refusal of a module
@@ -33,6 +34,6 @@ pub record IsFault (features : WasmFeatures) (bytes : List ℕ) (error : ModuleE
   pub stops : Stops features bytes trouble place
   pub error_is : error ≡ refusal trouble place
 
--- the file is longer than 2^30 bytes, or it stops so; want of memory may stand in place of what comes later, but for that length
+-- the file is longer than 2^30 bytes, or it stops so; want of memory may stand in place of what comes behind the header, but for that length
 abbrev pub IsRefusal : WasmFeatures → List ℕ → ModuleError → Type 0
-IsRefusal features bytes error = ((error ≡ errors.Memory) × IsShort bytes) ⊎ (((error ≡ errors.InputTooLong) × (2 ^ 30 < length bytes)) ⊎ IsFault features bytes error)
+IsRefusal features bytes error = ((error ≡ errors.Memory) × IsShort bytes × HasHeader bytes) ⊎ (((error ≡ errors.InputTooLong) × (2 ^ 30 < length bytes)) ⊎ IsFault features bytes error)

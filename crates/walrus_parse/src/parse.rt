@@ -5,7 +5,7 @@ ghost use Rattle.walrus_config.specs.Config.{default_config};
 ghost use Rattle.walrus_config.specs.declared.config.ModuleConfig.{ModuleConfig as Flags};
 ghost use Rattle.walrus_named_bodies.specs.walrus_locations.Sent.{AnswersLocations};
 ghost use Rattle.walrus_named_bodies.specs.walrus_item_names.walrus_module.declared.module.Module.{Module as Whole};
-ghost use Rattle.walrus_parse.specs.Parsed.{HandsOn, IsRead, read_features};
+ghost use Rattle.walrus_named_bodies.specs.Parsed.{HandsOn, IsRead, read_features};
 ghost use Rattle.walrus_parse.specs.Refusals.{IsRefusal};
 
 use crate::whole::parse_into;
@@ -28,7 +28,7 @@ pub trait Parse {
     ///
     /// # Errors
     ///
-    /// `InputTooLong` past 2^30 bytes; else the first fault of the file, at its place; want of memory, in place of what would come later.
+    /// `InputTooLong` past 2^30 bytes; else the first fault of the file, at its place; want of memory, in place of what would come behind the header.
     fn parse<B: Drop>(&self, alloc: Global, wasm: &[u8]) -> Result<Module<B>>
         ensures read { IfOk result (λ m. IsRead (flags self.now) wasm.now m) }
         ensures refused { IfErr result (λ error. IsRefusal (read_features (flags self.now)) wasm.now error) };

@@ -3,7 +3,7 @@
 ghost use Rattle.std.specs.Prelude.{◌≡◌, IfErr, IfOk};
 ghost use Rattle.walrus_named_bodies.specs.walrus_item_names.walrus_module.walrus_body_writer.walrus_pairing.walrus_index_maps.Views.{ids};
 ghost use Rattle.walrus_named_bodies.specs.walrus_file_bodies.walrus_items_into.Spaces.{spaces};
-ghost use Rattle.walrus_parse.specs.Parsed.{IsEmpty, IsModuleOf, read_features};
+ghost use Rattle.walrus_named_bodies.specs.Parsed.{IsEmpty, IsModuleOf, read_features};
 ghost use Rattle.walrus_parse.specs.Refusals.{IsRefusal};
 
 use crate::file::read_file;
@@ -113,7 +113,7 @@ fn read_module<B: Drop>(
 ///
 /// # Errors
 ///
-/// `InputTooLong` past 2^30 bytes; else the first fault of the file, at its place; want of memory, in place of what would come later.
+/// `InputTooLong` past 2^30 bytes; else the first fault of the file, at its place; want of memory, in place of what would come behind the header.
 /// The module is then of no use.
 pub fn parse_into<B: Drop>(
     alloc: Global,

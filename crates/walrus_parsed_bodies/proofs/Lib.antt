@@ -10,6 +10,6 @@ pub mod RuleLemmas
 pub mod UseLemmas
 -- Passed on to crates above, which then list this one alone.
 pub use Rattle.walrus_parsed_items.proofs.walrus_handler_types as walrus_handler_types
-pub use Rattle.walrus_parsed_items.proofs.walrus_parse as walrus_parse
+pub use Rattle.walrus_parsed_items.proofs.walrus_named_bodies as walrus_named_bodies
 pub use Rattle.walrus_parsed_items.proofs as walrus_parsed_items
 pub use Rattle.walrus_parsed_items.proofs.walrus_file_bodies as walrus_file_bodies

@@ -19,7 +19,7 @@ use Rattle.walrus_forms.specs.declared.value.ValType.TheVariants.{I32, I64, F32,
 use Rattle.walrus_parsed_items.specs.walrus_body_trees.walrus_pairing.walrus_instr.declared.seq.InstrSeqType.{InstrSeqType}
 use Rattle.walrus_parsed_items.specs.walrus_body_trees.walrus_pairing.walrus_instr.declared.seq.InstrSeqType.TheVariants.{Simple, MultiValue}
 use Rattle.walrus_parsed_items.specs.walrus_into_laws.walrus_meaning.Words.{own_block, own_heap, own_value}
-use Rattle.walrus_parsed_items.specs.walrus_parse.walrus_file_bodies.walrus_items_into.walrus_module_env.Around.{block_named}
+use Rattle.walrus_parsed_items.specs.walrus_named_bodies.walrus_file_bodies.walrus_items_into.walrus_module_env.Around.{block_named}
 use Rattle.walrus_parsed_items.proofs.walrus_pairing.TypesAgain.{value_again}
 use Rattle.walrus_parsed_items.specs.walrus_body_trees.walrus_pairing.Laws.{Renames, all}
 use Rattle.walrus_parsed_items.specs.walrus_body_trees.walrus_pairing.Looks.{Or, ◌>>=◌}

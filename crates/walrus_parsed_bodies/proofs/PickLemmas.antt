@@ -11,10 +11,10 @@ use Rattle.walrus_parsed_items.specs.walrus_into_laws.walrus_meaning.walrus_link
 use Rattle.walrus_parsed_items.specs.walrus_into_laws.walrus_meaning.walrus_linked.walrus_local_function.walrus_body_locals.walrus_body_nesting.Stands.{Finish, Part, StandsAs, lies}
 use Rattle.walrus_parsed_items.specs.walrus_into_laws.walrus_meaning.walrus_linked.walrus_local_function.walrus_body_locals.walrus_body_nesting.declared.frames.Opener.{Opener}
 use Rattle.walrus_parsed_items.specs.walrus_into_laws.walrus_meaning.walrus_linked.walrus_local_function.walrus_body_locals.walrus_body_nesting.declared.frames.Opener.TheVariants as openers
-use Rattle.walrus_parsed_items.specs.walrus_parse.walrus_file_bodies.walrus_items_into.walrus_module_env.walrus_body_parser.walrus_body_steps.Meanings.{IsOpener, OpensOf, meaning}
-use Rattle.walrus_parsed_items.specs.walrus_parse.walrus_file_bodies.walrus_items_into.walrus_module_env.walrus_body_parser.walrus_body_steps.Picks.{ArePicks, normal_picked, picked_size, with_picks}
+use Rattle.walrus_parsed_items.specs.walrus_named_bodies.walrus_file_bodies.walrus_items_into.walrus_module_env.walrus_body_parser.walrus_body_steps.Meanings.{IsOpener, OpensOf, meaning}
+use Rattle.walrus_parsed_items.specs.walrus_named_bodies.walrus_file_bodies.walrus_items_into.walrus_module_env.walrus_body_parser.walrus_body_steps.Picks.{ArePicks, normal_picked, picked_size, with_picks}
 use Rattle.walrus_parsed_items.specs.walrus_into_laws.walrus_meaning.walrus_linked.walrus_local_function.walrus_function_parser.walrus_body_rules.Sights.{Sight, written_block}
-use Rattle.walrus_parsed_items.specs.walrus_parse.walrus_module.walrus_builder.Built.{Seq}
+use Rattle.walrus_parsed_items.specs.walrus_named_bodies.walrus_item_names.walrus_module.walrus_builder.Built.{Seq}
 use Rattle.walrus_parsed_items.specs.walrus_into_laws.walrus_meaning.walrus_linked.walrus_body_writer.walrus_body_env.walrus_instr.declared.instr.Instr.{Instr}
 use Rattle.walrus_parsed_items.specs.walrus_into_laws.walrus_meaning.walrus_linked.walrus_body_writer.walrus_body_env.walrus_instr.declared.seq.InstrLocId.{InstrLocId}
 use Rattle.walrus_parsed_items.specs.walrus_into_laws.walrus_meaning.walrus_linked.walrus_body_writer.walrus_body_env.walrus_instr.declared.seq.InstrSeqType.{InstrSeqType}

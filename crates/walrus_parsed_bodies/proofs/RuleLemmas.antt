@@ -17,11 +17,11 @@ use Rattle.walrus_parsed_items.specs.walrus_body_trees.walrus_body_nesting.wasm_
 use Rattle.wasm_operators.specs.Items.{Space, Types, Functions, Tables, Memories, Tags, Globals, ElementSegments, DataSegments, Locals, Labels}
 use Rattle.wasm_operators.specs.declared.block_type.BlockType.{BlockType}
 use Rattle.wasm_operators.specs.declared.block_type.BlockType.TheVariants as blocks
-use Rattle.walrus_parsed_items.specs.walrus_parse.walrus_file_bodies.walrus_items_into.wasm_module_rules.Keeps.{first_none, must_holds}
+use Rattle.walrus_parsed_items.specs.walrus_named_bodies.walrus_file_bodies.walrus_items_into.wasm_module_rules.Keeps.{first_none, must_holds}
 use Rattle.wasm_operators.specs.Names.{Name, block_names, operator_names, value_names}
 use Rattle.walrus_parsed_items.specs.walrus_body_trees.walrus_body_nesting.wasm_body_grammar.wasm_operators.Operators.{flow_of}
 use Rattle.walrus_parsed_items.specs.wasm_import_links.wasm_ruled_modules.Rules.{AreBelow, AreOperators, GroupsBelow}
-use Rattle.walrus_parsed_items.specs.walrus_parse.walrus_file_bodies.walrus_items_into.walrus_module_env.wasm_run_names.Picks.{block_pick, form_pick, kind_pick}
+use Rattle.walrus_parsed_items.specs.walrus_named_bodies.walrus_file_bodies.walrus_items_into.walrus_module_env.wasm_run_names.Picks.{block_pick, form_pick, kind_pick}
 use Rattle.walrus_forms.proofs.RenamingLemmas.{In, kinds-below}
 use Rattle.walrus_forms.specs.Forms.{Form, FunctionForm, StructForm, ArrayForm, form_names}
 use Rattle.walrus_forms.specs.Kinds.{Kind, kind_names}

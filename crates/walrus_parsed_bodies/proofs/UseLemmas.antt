@@ -10,34 +10,34 @@ use Rattle.walrus_parsed_items.specs.walrus_body_trees.walrus_body_nesting.wasm_
 use Rattle.walrus_parsed_items.specs.walrus_body_trees.walrus_body_nesting.wasm_body_grammar.wasm_grammar.States.{State, types_of}
 use Rattle.wasm_operators.specs.Items.{Space, Types, Functions, Tables, Memories, Tags, Globals, ElementSegments, DataSegments, Locals, Labels}
 use Rattle.walrus_parsed_items.specs.wasm_import_links.Full.{AreFull, ReadModulesAreFull}
-use Rattle.walrus_parsed_items.specs.walrus_parse.walrus_file_bodies.walrus_items_into.wasm_module_rules.Reading.{bodies_length}
-use Rattle.walrus_parsed_items.specs.walrus_parse.walrus_file_bodies.walrus_items_into.wasm_module_rules.wasm_modules.Modules.{around, codes, module_of}
+use Rattle.walrus_parsed_items.specs.walrus_named_bodies.walrus_file_bodies.walrus_items_into.wasm_module_rules.Reading.{bodies_length}
+use Rattle.walrus_parsed_items.specs.walrus_named_bodies.walrus_file_bodies.walrus_items_into.wasm_module_rules.wasm_modules.Modules.{around, codes, module_of}
 use Rattle.walrus_parsed_items.specs.walrus_into_laws.walrus_meaning.walrus_linked.walrus_local_function.walrus_body_locals.wasm_normal_form.Normal.{normal_ops}
 use Rattle.walrus_parsed_items.specs.walrus_into_laws.walrus_meaning.walrus_linked.walrus_local_function.walrus_body_locals.wasm_normal_form.Roles.{Placed, placed}
 use Rattle.wasm_operators.specs.NameLaws.{NamesAreRenamed, renamed_name}
 use Rattle.wasm_operators.specs.Names.{Name, operator_names}
 use Rattle.walrus_parsed_items.specs.wasm_import_links.wasm_ruled_modules.Bodied.{body_is}
 use Rattle.walrus_parsed_items.specs.wasm_import_links.wasm_ruled_modules.Rules.{GroupsBelow, IsBody, ReadModulesAreRuled}
-use Rattle.walrus_parsed_items.specs.walrus_parse.walrus_file_bodies.walrus_items_into.walrus_module_env.wasm_run_names.Picks.{block_pick}
+use Rattle.walrus_parsed_items.specs.walrus_named_bodies.walrus_file_bodies.walrus_items_into.walrus_module_env.wasm_run_names.Picks.{block_pick}
 use Rattle.walrus_parsed_items.specs.walrus_body_trees.Laws.{meant, renamed}
-use Rattle.walrus_parsed_items.specs.walrus_parse.walrus_file_bodies.Laws.{BodiesReadFiles}
-use Rattle.walrus_parsed_items.specs.walrus_parse.walrus_file_bodies.Ready.{bodies_in}
+use Rattle.walrus_parsed_items.specs.walrus_named_bodies.walrus_file_bodies.Laws.{BodiesReadFiles}
+use Rattle.walrus_parsed_items.specs.walrus_named_bodies.walrus_file_bodies.Ready.{bodies_in}
 use Rattle.walrus_function_types.specs.Growth.{FoundTypesStay, TablesGrowOn}
-use Rattle.walrus_parsed_items.specs.walrus_parse.walrus_file_bodies.walrus_items_into.walrus_functions_into.declared.bodies.FunctionBody.{FunctionBody}
+use Rattle.walrus_parsed_items.specs.walrus_named_bodies.walrus_file_bodies.walrus_items_into.walrus_functions_into.declared.bodies.FunctionBody.{FunctionBody}
 use Rattle.walrus_parsed_items.specs.walrus_into_laws.Groups.{ReadTypesAreDeclared}
 use Rattle.walrus_parsed_items.specs.walrus_body_trees.walrus_pairing.walrus_index_maps.Maps.{Ids}
 use Rattle.walrus_parsed_items.specs.walrus_into_laws.Meaning.{OrderedStay, OthersStay}
 use Rattle.walrus_parsed_items.specs.walrus_into_laws.Renamed.{retyped_element, retyped_global, retyped_segment, retyped_table, retyped_tag}
-use Rattle.walrus_parsed_items.specs.walrus_parse.walrus_file_bodies.walrus_items_into.Numbers.{numbers_of, types_in}
-use Rattle.walrus_parsed_items.specs.walrus_parse.walrus_file_bodies.walrus_items_into.walrus_tables_into.walrus_sections_into.walrus_known_sections.State.{state_of}
-use Rattle.walrus_parsed_items.specs.walrus_parse.walrus_file_bodies.walrus_items_into.walrus_tables_into.walrus_sections_into.walrus_known_sections.declared.sections.Sections.{Sections}
+use Rattle.walrus_parsed_items.specs.walrus_named_bodies.walrus_file_bodies.walrus_items_into.Numbers.{numbers_of, types_in}
+use Rattle.walrus_parsed_items.specs.walrus_named_bodies.walrus_file_bodies.walrus_items_into.walrus_tables_into.walrus_sections_into.walrus_known_sections.State.{state_of}
+use Rattle.walrus_parsed_items.specs.walrus_named_bodies.walrus_file_bodies.walrus_items_into.walrus_tables_into.walrus_sections_into.walrus_known_sections.declared.sections.Sections.{Sections}
 use Rattle.walrus_parsed_items.specs.walrus_into_laws.walrus_meaning.Bodies.{own_operators}
 use Rattle.walrus_parsed_items.specs.walrus_into_laws.walrus_meaning.Meaning.{means, own_element, own_global, own_segment, own_table, own_tag}
-use Rattle.walrus_parsed_items.specs.walrus_parse.walrus_module.Items.{LivesIn}
-use Rattle.walrus_parsed_items.specs.walrus_parse.walrus_module.Parts.{Module, parts}
+use Rattle.walrus_parsed_items.specs.walrus_named_bodies.walrus_item_names.walrus_module.Items.{LivesIn}
+use Rattle.walrus_parsed_items.specs.walrus_named_bodies.walrus_item_names.walrus_module.Parts.{Module, parts}
 use Rattle.walrus_parsed_items.specs.walrus_body_trees.walrus_pairing.Looks.{id_of}
-use Rattle.walrus_parsed_items.specs.walrus_parse.Parsed.{read_features}
-use Rattle.walrus_parsed_items.specs.walrus_parse.walrus_file_bodies.walrus_items_into.walrus_tables_into.walrus_sections_into.Becomes.{look_of}
+use Rattle.walrus_parsed_items.specs.walrus_named_bodies.Parsed.{read_features}
+use Rattle.walrus_parsed_items.specs.walrus_named_bodies.walrus_file_bodies.walrus_items_into.walrus_tables_into.walrus_sections_into.Becomes.{look_of}
 use Rattle.walrus_parsed_items.specs.walrus_into_laws.walrus_types_into.Into.{NewTypesStand, TypesNameBelow}
 use Rattle.walrus_parsed_items.specs.Items.{HasItems, ReadModulesHaveItems, file_of}
 use Rattle.walrus_parsed_items.proofs.LinkLemmas.{function_flags}

@@ -2,40 +2,40 @@
 use Rattle.std.specs.Prelude.{ℕ, ◌≡◌, ◌<◌, true, List, [], All, IfSome, length, map, Option, Some, None, slice_index_or, refl}
 use Rattle.std.specs.Option.{option_and_then, option_map}
 use Rattle.std.proofs.Common.{ap, sym, ◌∙◌, subst, arith, inl, inr}
-use Rattle.walrus_parsed_items.specs.walrus_parse.walrus_file_bodies.walrus_items_into.wasm_module_rules.wasm_modules.Modules.{around}
-use Rattle.walrus_parsed_items.specs.walrus_parse.walrus_file_bodies.walrus_items_into.wasm_sections.Within.{ChunksFit, bodies_inside}
+use Rattle.walrus_parsed_items.specs.walrus_named_bodies.walrus_file_bodies.walrus_items_into.wasm_module_rules.wasm_modules.Modules.{around}
+use Rattle.walrus_parsed_items.specs.walrus_named_bodies.walrus_file_bodies.walrus_items_into.wasm_sections.Within.{ChunksFit, bodies_inside}
 use Rattle.walrus_parsed_items.specs.walrus_body_trees.Laws.{BodiesAreTrees}
 use Rattle.walrus_config.specs.declared.config.ModuleConfig.{ModuleConfig}
 use Rattle.walrus_parsed_items.proofs.walrus_file_bodies.PairLemmas.{are_apart, chunks_fit}
 use Rattle.walrus_parsed_items.proofs.walrus_file_bodies.StopLemmas.{bodies_wait, chunks_fit_in, count_in}
-use Rattle.walrus_parsed_items.specs.walrus_parse.walrus_file_bodies.Read.{Waits, steps_grow}
-use Rattle.walrus_parsed_items.specs.walrus_parse.walrus_file_bodies.Ready.{bodies_in}
+use Rattle.walrus_parsed_items.specs.walrus_named_bodies.walrus_file_bodies.Read.{Waits, steps_grow}
+use Rattle.walrus_parsed_items.specs.walrus_named_bodies.walrus_file_bodies.Ready.{bodies_in}
 use Rattle.walrus_forms.specs.Forms.{Form, FunctionForm, StructForm, ArrayForm, params_of}
 use Rattle.walrus_forms.specs.declared.value.ValType.{ValType}
 use Rattle.walrus_function_types.specs.FunctionTypes.{form_params}
 use Rattle.walrus_function_types.specs.Growth.{EntryTypesGrow, FoundTypesStay, TablesGrowOn}
-use Rattle.walrus_parsed_items.specs.walrus_parse.walrus_file_bodies.walrus_items_into.walrus_functions_into.Bodies.{is_bodiless, wants_body}
-use Rattle.walrus_parsed_items.specs.walrus_parse.walrus_file_bodies.walrus_items_into.walrus_functions_into.Functions.{kind_of}
-use Rattle.walrus_parsed_items.specs.walrus_parse.walrus_file_bodies.walrus_items_into.walrus_functions_into.Laws.{read_bodies}
-use Rattle.walrus_parsed_items.specs.walrus_parse.walrus_file_bodies.walrus_items_into.walrus_functions_into.declared.bodies.FunctionBody.{FunctionBody}
+use Rattle.walrus_parsed_items.specs.walrus_named_bodies.walrus_file_bodies.walrus_items_into.walrus_functions_into.Bodies.{is_bodiless, wants_body}
+use Rattle.walrus_parsed_items.specs.walrus_named_bodies.walrus_file_bodies.walrus_items_into.walrus_functions_into.Functions.{kind_of}
+use Rattle.walrus_parsed_items.specs.walrus_named_bodies.walrus_file_bodies.walrus_items_into.walrus_functions_into.Laws.{read_bodies}
+use Rattle.walrus_parsed_items.specs.walrus_named_bodies.walrus_file_bodies.walrus_items_into.walrus_functions_into.declared.bodies.FunctionBody.{FunctionBody}
 use Rattle.walrus_parsed_items.specs.walrus_into_laws.walrus_meaning.walrus_linked.walrus_body_writer.walrus_pairing.walrus_index_maps.Maps.{Ids}
-use Rattle.walrus_parsed_items.specs.walrus_parse.walrus_item_names.Holder.{Holder}
-use Rattle.walrus_parsed_items.specs.walrus_parse.walrus_item_names.Names.{bare_function, bare_type}
-use Rattle.walrus_parsed_items.specs.walrus_parse.walrus_file_bodies.walrus_items_into.Laws.{FilledFunctionsStand, FilledModulesAreFiled}
-use Rattle.walrus_parsed_items.specs.walrus_parse.walrus_file_bodies.walrus_items_into.walrus_tables_into.walrus_sections_into.walrus_known_sections.Items.{chunk_of}
-use Rattle.walrus_parsed_items.specs.walrus_parse.walrus_file_bodies.walrus_items_into.walrus_tables_into.walrus_sections_into.walrus_known_sections.State.{state_of}
+use Rattle.walrus_parsed_items.specs.walrus_named_bodies.walrus_item_names.Holder.{Holder}
+use Rattle.walrus_parsed_items.specs.walrus_named_bodies.walrus_item_names.Names.{bare_function, bare_type}
+use Rattle.walrus_parsed_items.specs.walrus_named_bodies.walrus_file_bodies.walrus_items_into.Laws.{FilledFunctionsStand, FilledModulesAreFiled}
+use Rattle.walrus_parsed_items.specs.walrus_named_bodies.walrus_file_bodies.walrus_items_into.walrus_tables_into.walrus_sections_into.walrus_known_sections.Items.{chunk_of}
+use Rattle.walrus_parsed_items.specs.walrus_named_bodies.walrus_file_bodies.walrus_items_into.walrus_tables_into.walrus_sections_into.walrus_known_sections.State.{state_of}
 use Rattle.walrus_parsed_items.specs.walrus_into_laws.walrus_meaning.walrus_linked.Linked.{IsWhole}
 use Rattle.walrus_parsed_items.specs.walrus_into_laws.walrus_meaning.walrus_linked.walrus_local_function.declared.local_function.LocalFunction.{LocalFunction}
-use Rattle.walrus_parsed_items.specs.walrus_parse.walrus_module.declared.module.Module.{Module as Whole}
-use Rattle.walrus_parsed_items.specs.walrus_parse.walrus_file_bodies.walrus_module_bodies.Steps.{state}
-use Rattle.walrus_parsed_items.specs.walrus_parse.walrus_file_bodies.walrus_items_into.walrus_module_env.Parsed.{PicksAreSeen}
+use Rattle.walrus_parsed_items.specs.walrus_named_bodies.walrus_item_names.walrus_module.declared.module.Module.{Module as Whole}
+use Rattle.walrus_parsed_items.specs.walrus_named_bodies.walrus_file_bodies.walrus_module_bodies.Steps.{state}
+use Rattle.walrus_parsed_items.specs.walrus_named_bodies.walrus_file_bodies.walrus_items_into.walrus_module_env.Parsed.{PicksAreSeen}
 use Rattle.walrus_parsed_items.specs.walrus_into_laws.walrus_meaning.walrus_linked.walrus_module_items.declared.function.Function.{Function}
 use Rattle.walrus_parsed_items.specs.walrus_into_laws.walrus_meaning.walrus_linked.walrus_module_items.declared.function.FunctionKind.{FunctionKind}
 use Rattle.walrus_parsed_items.specs.walrus_into_laws.walrus_meaning.walrus_linked.walrus_module_items.declared.function.FunctionKind.TheVariants as kinds
-use Rattle.walrus_parsed_items.specs.walrus_parse.Parsed.{IsReadAs, read_features}
+use Rattle.walrus_parsed_items.specs.walrus_named_bodies.Parsed.{IsReadAs, read_features}
 use Rattle.walrus_parsed_items.specs.walrus_into_laws.walrus_meaning.walrus_linked.walrus_tree.Trees.{Has}
-use Rattle.walrus_parsed_items.specs.walrus_parse.walrus_module.walrus_types.Items.{Item}
-use Rattle.walrus_parsed_items.specs.walrus_parse.walrus_module.walrus_types.Table.{Table, type_at}
+use Rattle.walrus_parsed_items.specs.walrus_named_bodies.walrus_item_names.walrus_module.walrus_types.Items.{Item}
+use Rattle.walrus_parsed_items.specs.walrus_named_bodies.walrus_item_names.walrus_module.walrus_types.Table.{Table, type_at}
 use Rattle.walrus_parsed_bodies.specs.Whole.{ReadFunctionsAreWhole}
 use Rattle.walrus_parsed_bodies.proofs.SlotLemmas.{none_has, read_kind, wanted}
 use Rattle.walrus_parsed_bodies.proofs.StepLemmas.{IsGood, step_good, steps_have}

@@ -4,18 +4,18 @@ use Rattle.std.specs.List.{AllZip}
 use Rattle.std.specs.Option.{unwrap_or}
 use Rattle.walrus_parsed_items.specs.walrus_body_trees.walrus_body_nesting.wasm_body_grammar.Rules.{Around}
 use Rattle.walrus_parsed_items.specs.walrus_body_trees.walrus_body_nesting.wasm_body_grammar.wasm_grammar.Modules as grammar
-use Rattle.walrus_parsed_items.specs.walrus_parse.walrus_file_bodies.walrus_items_into.wasm_module_rules.wasm_modules.Modules.{around}
+use Rattle.walrus_parsed_items.specs.walrus_named_bodies.walrus_file_bodies.walrus_items_into.wasm_module_rules.wasm_modules.Modules.{around}
 use Rattle.walrus_parsed_items.specs.walrus_into_laws.walrus_meaning.walrus_local_function.walrus_body_locals.wasm_normal_form.Normal.{normal_ops}
 use Rattle.walrus_parsed_items.specs.walrus_into_laws.walrus_meaning.walrus_local_function.walrus_body_locals.wasm_normal_form.Roles.{Placed, placed}
 use Rattle.walrus_parsed_items.specs.walrus_body_trees.walrus_body_nesting.wasm_body_grammar.wasm_operators.Names.{Renaming}
-use Rattle.walrus_parsed_items.specs.walrus_parse.walrus_file_bodies.walrus_items_into.walrus_module_env.wasm_run_names.Picks.{block_pick}
+use Rattle.walrus_parsed_items.specs.walrus_named_bodies.walrus_file_bodies.walrus_items_into.walrus_module_env.wasm_run_names.Picks.{block_pick}
 use Rattle.walrus_arena.specs.Arena.{item_at}
 use Rattle.walrus_parsed_items.specs.walrus_body_trees.Laws.{meant, renamed}
 use Rattle.walrus_config.specs.declared.config.ModuleConfig.{ModuleConfig}
-use Rattle.walrus_parsed_items.specs.walrus_parse.walrus_file_bodies.Ready.{bodies_in}
-use Rattle.walrus_parsed_items.specs.walrus_parse.walrus_file_bodies.walrus_items_into.walrus_functions_into.declared.bodies.FunctionBody.{FunctionBody}
+use Rattle.walrus_parsed_items.specs.walrus_named_bodies.walrus_file_bodies.Ready.{bodies_in}
+use Rattle.walrus_parsed_items.specs.walrus_named_bodies.walrus_file_bodies.walrus_items_into.walrus_functions_into.declared.bodies.FunctionBody.{FunctionBody}
 use Rattle.walrus_parsed_items.specs.walrus_body_trees.walrus_pairing.walrus_index_maps.Maps.{Ids}
-use Rattle.walrus_parsed_items.specs.walrus_parse.walrus_file_bodies.walrus_items_into.walrus_tables_into.walrus_sections_into.walrus_known_sections.State.{state_of}
+use Rattle.walrus_parsed_items.specs.walrus_named_bodies.walrus_file_bodies.walrus_items_into.walrus_tables_into.walrus_sections_into.walrus_known_sections.State.{state_of}
 use Rattle.walrus_parsed_items.specs.walrus_into_laws.walrus_meaning.walrus_local_function.declared.local_function.LocalFunction.{LocalFunction}
 use Rattle.walrus_parsed_items.specs.walrus_into_laws.walrus_meaning.Bodies.{own_operators}
 use Rattle.walrus_parsed_items.specs.walrus_into_laws.walrus_meaning.walrus_module.Parts.{Module, parts}
@@ -23,7 +23,7 @@ use Rattle.walrus_parsed_items.specs.walrus_into_laws.walrus_meaning.walrus_modu
 use Rattle.walrus_parsed_items.specs.walrus_into_laws.walrus_meaning.walrus_linked.walrus_module_items.declared.function.Function.{Function}
 use Rattle.walrus_parsed_items.specs.walrus_into_laws.walrus_meaning.walrus_linked.walrus_module_items.declared.function.FunctionKind.TheVariants as kinds
 use Rattle.walrus_parsed_items.specs.walrus_body_trees.walrus_pairing.Looks.{id_of}
-use Rattle.walrus_parsed_items.specs.walrus_parse.Parsed.{IsReadAs, read_features}
+use Rattle.walrus_parsed_items.specs.walrus_named_bodies.Parsed.{IsReadAs, read_features}
 
 -- each index of a function becomes the id that it names; one that names nothing stays, as labels do
 abbrev pub naming : Ids → ℕ → Renaming

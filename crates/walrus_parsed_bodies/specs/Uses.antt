@@ -7,17 +7,17 @@ use Rattle.wasm_operators.specs.Items.{Space, Locals, Labels}
 use Rattle.wasm_operators.specs.Names.{Name, operator_names}
 use Rattle.walrus_arena.specs.Arena.{item_at}
 use Rattle.walrus_config.specs.declared.config.ModuleConfig.{ModuleConfig}
-use Rattle.walrus_parsed_items.specs.walrus_parse.walrus_file_bodies.Ready.{bodies_in}
-use Rattle.walrus_parsed_items.specs.walrus_parse.walrus_file_bodies.walrus_items_into.walrus_functions_into.declared.bodies.FunctionBody.{FunctionBody}
+use Rattle.walrus_parsed_items.specs.walrus_named_bodies.walrus_file_bodies.Ready.{bodies_in}
+use Rattle.walrus_parsed_items.specs.walrus_named_bodies.walrus_file_bodies.walrus_items_into.walrus_functions_into.declared.bodies.FunctionBody.{FunctionBody}
 use Rattle.walrus_parsed_items.specs.walrus_body_trees.walrus_pairing.walrus_index_maps.Maps.{Ids}
 use Rattle.walrus_parsed_items.specs.walrus_into_laws.walrus_meaning.walrus_linked.walrus_local_function.declared.local_function.LocalFunction.{LocalFunction}
 use Rattle.walrus_parsed_items.specs.walrus_into_laws.walrus_meaning.Bodies.{own_operators}
-use Rattle.walrus_parsed_items.specs.walrus_parse.walrus_module.Items.{LivesIn}
-use Rattle.walrus_parsed_items.specs.walrus_parse.walrus_module.Parts.{Module, parts}
-use Rattle.walrus_parsed_items.specs.walrus_parse.walrus_module.declared.module.Module.{Module as Whole}
+use Rattle.walrus_parsed_items.specs.walrus_named_bodies.walrus_item_names.walrus_module.Items.{LivesIn}
+use Rattle.walrus_parsed_items.specs.walrus_named_bodies.walrus_item_names.walrus_module.Parts.{Module, parts}
+use Rattle.walrus_parsed_items.specs.walrus_named_bodies.walrus_item_names.walrus_module.declared.module.Module.{Module as Whole}
 use Rattle.walrus_parsed_items.specs.walrus_into_laws.walrus_meaning.walrus_linked.walrus_module_items.declared.function.Function.{Function}
 use Rattle.walrus_parsed_items.specs.walrus_into_laws.walrus_meaning.walrus_linked.walrus_module_items.declared.function.FunctionKind.TheVariants as kinds
-use Rattle.walrus_parsed_items.specs.walrus_parse.Parsed.{IsReadAs}
+use Rattle.walrus_parsed_items.specs.walrus_named_bodies.Parsed.{IsReadAs}
 
 -- the item of the module lives; a label or local is the body's own
 abbrev pub IsThere : Module → Space → ℕ → Type 0

@@ -4,10 +4,10 @@ use Rattle.walrus_arena.specs.Arena.{item_at}
 use Rattle.walrus_config.specs.declared.config.ModuleConfig.{ModuleConfig}
 use Rattle.walrus_parsed_items.specs.walrus_into_laws.walrus_meaning.walrus_linked.walrus_body_writer.walrus_pairing.walrus_index_maps.Maps.{Ids}
 use Rattle.walrus_parsed_items.specs.walrus_into_laws.walrus_meaning.walrus_linked.Linked.{IsWhole}
-use Rattle.walrus_parsed_items.specs.walrus_parse.walrus_module.Parts.{Module, parts}
-use Rattle.walrus_parsed_items.specs.walrus_parse.walrus_module.declared.module.Module.{Module as Whole}
+use Rattle.walrus_parsed_items.specs.walrus_named_bodies.walrus_item_names.walrus_module.Parts.{Module, parts}
+use Rattle.walrus_parsed_items.specs.walrus_named_bodies.walrus_item_names.walrus_module.declared.module.Module.{Module as Whole}
 use Rattle.walrus_parsed_items.specs.walrus_into_laws.walrus_meaning.walrus_linked.walrus_module_items.declared.function.Function.{Function}
-use Rattle.walrus_parsed_items.specs.walrus_parse.Parsed.{IsReadAs}
+use Rattle.walrus_parsed_items.specs.walrus_named_bodies.Parsed.{IsReadAs}
 
 -- each function is imported, or has a body of its arguments whose sequences form a tree
 abbrev pub AreWhole : Module → Type 0

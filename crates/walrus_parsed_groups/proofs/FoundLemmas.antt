@@ -4,7 +4,7 @@ use Rattle.std.specs.List.{AllByRecursion}
 use Rattle.walrus_forms.specs.Kinds.{Kind}
 use Rattle.walrus_forms.specs.Same.{same_kind}
 use Rattle.walrus_forms.proofs.EqLemmas.{same-kind-law}
-use Rattle.walrus_parsed_linked.specs.walrus_parsed_items.walrus_parse.walrus_module.walrus_types.Table.{Table}
+use Rattle.walrus_parsed_linked.specs.walrus_parsed_items.walrus_named_bodies.walrus_item_names.walrus_module.walrus_types.Table.{Table}
 use Rattle.walrus_parsed_groups.specs.Added.{Signature, added, is_missing, kind_of, once}
 use Rattle.walrus_parsed_groups.proofs.OnceLemmas.{has, has_others, others}
 use Rattle.walrus_parsed_groups.proofs.TableLemmas.{Stands}

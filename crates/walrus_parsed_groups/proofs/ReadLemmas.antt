@@ -2,30 +2,30 @@
 use Rattle.std.proofs.Common.{◌≡◌, ◌∙◌, ℕ, false, List, [], ◌++◌, length, map, Option, sym, ap, subst}
 use Rattle.std.specs.List.{AllByRecursion, flat_map}
 use Rattle.std.specs.Option.{option_map}
-use Rattle.walrus_parsed_linked.specs.walrus_parsed_items.walrus_parse.walrus_file_bodies.walrus_items_into.walrus_module_env.walrus_handler_types.walrus_handler_laws.walrus_body_steps.wasm_body_grammar.Rules.{Around}
-use Rattle.walrus_parsed_linked.specs.walrus_parsed_items.walrus_parse.walrus_file_bodies.walrus_items_into.wasm_module_rules.wasm_modules.Modules.{around}
-use Rattle.walrus_parsed_linked.specs.walrus_parsed_items.walrus_parse.walrus_file_bodies.walrus_items_into.wasm_sections.Within.{bodies_inside}
-use Rattle.walrus_parsed_linked.proofs.walrus_parse.walrus_file_bodies.PairLemmas.{are_apart, chunks_fit}
-use Rattle.walrus_parsed_linked.proofs.walrus_parse.walrus_file_bodies.StopLemmas.{bodies_wait, chunks_fit_in, count_in}
-use Rattle.walrus_parsed_linked.specs.walrus_parsed_items.walrus_parse.walrus_file_bodies.Laws.{BodiesReadFiles}
-use Rattle.walrus_parsed_linked.specs.walrus_parsed_items.walrus_parse.walrus_file_bodies.Read.{grows_none}
-use Rattle.walrus_parsed_linked.specs.walrus_parsed_items.walrus_parse.walrus_file_bodies.Ready.{bodies_in}
+use Rattle.walrus_parsed_linked.specs.walrus_parsed_items.walrus_named_bodies.walrus_file_bodies.walrus_items_into.walrus_module_env.walrus_handler_types.walrus_handler_laws.walrus_body_steps.wasm_body_grammar.Rules.{Around}
+use Rattle.walrus_parsed_linked.specs.walrus_parsed_items.walrus_named_bodies.walrus_file_bodies.walrus_items_into.wasm_module_rules.wasm_modules.Modules.{around}
+use Rattle.walrus_parsed_linked.specs.walrus_parsed_items.walrus_named_bodies.walrus_file_bodies.walrus_items_into.wasm_sections.Within.{bodies_inside}
+use Rattle.walrus_parsed_linked.proofs.walrus_named_bodies.walrus_file_bodies.PairLemmas.{are_apart, chunks_fit}
+use Rattle.walrus_parsed_linked.proofs.walrus_named_bodies.walrus_file_bodies.StopLemmas.{bodies_wait, chunks_fit_in, count_in}
+use Rattle.walrus_parsed_linked.specs.walrus_parsed_items.walrus_named_bodies.walrus_file_bodies.Laws.{BodiesReadFiles}
+use Rattle.walrus_parsed_linked.specs.walrus_parsed_items.walrus_named_bodies.walrus_file_bodies.Read.{grows_none}
+use Rattle.walrus_parsed_linked.specs.walrus_parsed_items.walrus_named_bodies.walrus_file_bodies.Ready.{bodies_in}
 use Rattle.walrus_forms.specs.Records.{TypeGroup}
 use Rattle.walrus_function_types.specs.Growth.{EntryTypesGrow, FoundTypesStay, TablesGrowOn}
-use Rattle.walrus_parsed_linked.specs.walrus_parsed_items.walrus_parse.walrus_file_bodies.walrus_items_into.walrus_functions_into.Laws.{read_bodies}
-use Rattle.walrus_parsed_linked.specs.walrus_parsed_items.walrus_parse.walrus_file_bodies.walrus_items_into.walrus_functions_into.declared.bodies.FunctionBody.{FunctionBody}
+use Rattle.walrus_parsed_linked.specs.walrus_parsed_items.walrus_named_bodies.walrus_file_bodies.walrus_items_into.walrus_functions_into.Laws.{read_bodies}
+use Rattle.walrus_parsed_linked.specs.walrus_parsed_items.walrus_named_bodies.walrus_file_bodies.walrus_items_into.walrus_functions_into.declared.bodies.FunctionBody.{FunctionBody}
 use Rattle.walrus_parsed_linked.specs.walrus_parsed_items.walrus_into_laws.Groups.{GroupsMean, ReadTypesAreDeclared, kept}
-use Rattle.walrus_parsed_linked.specs.walrus_parsed_items.walrus_parse.walrus_file_bodies.walrus_items_into.walrus_module_env.walrus_handler_types.walrus_handler_laws.declared.handler.Handler.{Handler}
+use Rattle.walrus_parsed_linked.specs.walrus_parsed_items.walrus_named_bodies.walrus_file_bodies.walrus_items_into.walrus_module_env.walrus_handler_types.walrus_handler_laws.declared.handler.Handler.{Handler}
 use Rattle.walrus_parsed_linked.specs.walrus_pairing.walrus_index_maps.Maps.{Ids}
-use Rattle.walrus_parsed_linked.specs.walrus_parsed_items.walrus_parse.walrus_item_names.Holder.{Holder}
-use Rattle.walrus_parsed_linked.specs.walrus_parsed_items.walrus_parse.walrus_item_names.Names.{bare_type}
-use Rattle.walrus_parsed_linked.specs.walrus_parsed_items.walrus_parse.walrus_file_bodies.walrus_items_into.Laws.{FilledFunctionsStand, FilledModulesAreFiled}
-use Rattle.walrus_parsed_linked.specs.walrus_parsed_items.walrus_parse.walrus_file_bodies.walrus_items_into.Numbers.{types_in}
-use Rattle.walrus_parsed_linked.specs.walrus_parsed_items.walrus_parse.walrus_file_bodies.walrus_items_into.walrus_tables_into.walrus_sections_into.walrus_known_sections.State.{state_of}
-use Rattle.walrus_parsed_linked.specs.walrus_parsed_items.walrus_parse.walrus_file_bodies.walrus_module_bodies.Steps.{State, state}
+use Rattle.walrus_parsed_linked.specs.walrus_parsed_items.walrus_named_bodies.walrus_item_names.Holder.{Holder}
+use Rattle.walrus_parsed_linked.specs.walrus_parsed_items.walrus_named_bodies.walrus_item_names.Names.{bare_type}
+use Rattle.walrus_parsed_linked.specs.walrus_parsed_items.walrus_named_bodies.walrus_file_bodies.walrus_items_into.Laws.{FilledFunctionsStand, FilledModulesAreFiled}
+use Rattle.walrus_parsed_linked.specs.walrus_parsed_items.walrus_named_bodies.walrus_file_bodies.walrus_items_into.Numbers.{types_in}
+use Rattle.walrus_parsed_linked.specs.walrus_parsed_items.walrus_named_bodies.walrus_file_bodies.walrus_items_into.walrus_tables_into.walrus_sections_into.walrus_known_sections.State.{state_of}
+use Rattle.walrus_parsed_linked.specs.walrus_parsed_items.walrus_named_bodies.walrus_file_bodies.walrus_module_bodies.Steps.{State, state}
 use Rattle.walrus_parsed_linked.specs.walrus_pairing.Laws.{OperatorComesBack}
-use Rattle.walrus_parsed_linked.specs.walrus_parsed_items.walrus_parse.Parsed.{read_features}
-use Rattle.walrus_parsed_linked.specs.walrus_parsed_items.walrus_parse.walrus_module.walrus_types.Table.{Table}
+use Rattle.walrus_parsed_linked.specs.walrus_parsed_items.walrus_named_bodies.Parsed.{read_features}
+use Rattle.walrus_parsed_linked.specs.walrus_parsed_items.walrus_named_bodies.walrus_item_names.walrus_module.walrus_types.Table.{Table}
 use Rattle.walrus_parsed_linked.specs.walrus_parsed_items.walrus_into_laws.walrus_types_into.Into.{TypesNameBelow}
 use Rattle.walrus_parsed_groups.specs.Added.{Signature, added, is_missing, single}
 use Rattle.walrus_parsed_groups.specs.Groups.{ReadModulesHaveGroups, handlers_of}

@@ -17,8 +17,8 @@ use Rattle.walrus_parsed_linked.specs.walrus_pairing.walrus_instr.BlockTypes.{Ma
 use Rattle.walrus_parsed_linked.specs.walrus_pairing.walrus_instr.declared.seq.InstrSeqType.{InstrSeqType}
 use Rattle.walrus_parsed_linked.specs.walrus_pairing.walrus_instr.declared.seq.InstrSeqType.TheVariants.{MultiValue}
 use Rattle.walrus_parsed_linked.specs.walrus_parsed_items.walrus_into_laws.walrus_meaning.Meaning.{group_kinds, has_kinds, own_groups, plain_kind}
-use Rattle.walrus_parsed_linked.specs.walrus_parsed_items.walrus_parse.walrus_module.walrus_types.Items.{Group, Item}
-use Rattle.walrus_parsed_linked.specs.walrus_parsed_items.walrus_parse.walrus_module.walrus_types.Table.{Adds, Merges, Table, equal_type, found_type, latest_in, next_id, type_at}
+use Rattle.walrus_parsed_linked.specs.walrus_parsed_items.walrus_named_bodies.walrus_item_names.walrus_module.walrus_types.Items.{Group, Item}
+use Rattle.walrus_parsed_linked.specs.walrus_parsed_items.walrus_named_bodies.walrus_item_names.walrus_module.walrus_types.Table.{Adds, Merges, Table, equal_type, found_type, latest_in, next_id, type_at}
 use Rattle.walrus_parsed_linked.proofs.walrus_parsed_bodies.walrus_handler_types.Growing.{equal_none, latest_push}
 use Rattle.walrus_parsed_groups.specs.Added.{Signature, added, is_missing, kind_of, single}
 use Rattle.walrus_parsed_groups.proofs.OnceLemmas.{added_more, has}

@@ -2,43 +2,43 @@
 use Rattle.std.proofs.Common.{◌≡◌, ◌∙◌, ℕ, List, [], ◌∷◌, ◌++◌, length, map, Ok, Option, Some, None, refl, sym, ap, subst, arith}
 use Rattle.std.specs.List.{flat_map}
 use Rattle.std.specs.Option.{option_map, option_or}
-use Rattle.walrus_parsed_linked.specs.walrus_parsed_items.walrus_parse.walrus_file_bodies.walrus_items_into.walrus_module_env.walrus_handler_types.walrus_handler_laws.walrus_body_steps.wasm_body_grammar.Bodies.{Parts, body, body_of}
-use Rattle.walrus_parsed_linked.specs.walrus_parsed_items.walrus_parse.walrus_file_bodies.walrus_items_into.walrus_module_env.walrus_handler_types.walrus_handler_laws.walrus_body_steps.wasm_body_grammar.Rules.{Around}
+use Rattle.walrus_parsed_linked.specs.walrus_parsed_items.walrus_named_bodies.walrus_file_bodies.walrus_items_into.walrus_module_env.walrus_handler_types.walrus_handler_laws.walrus_body_steps.wasm_body_grammar.Bodies.{Parts, body, body_of}
+use Rattle.walrus_parsed_linked.specs.walrus_parsed_items.walrus_named_bodies.walrus_file_bodies.walrus_items_into.walrus_module_env.walrus_handler_types.walrus_handler_laws.walrus_body_steps.wasm_body_grammar.Rules.{Around}
 use Rattle.walrus_parsed_linked.specs.walrus_pairing.wasm_operators.wasm_features.declared.WasmFeatures.{WasmFeatures}
-use Rattle.walrus_parsed_linked.specs.walrus_parsed_items.walrus_parse.walrus_file_bodies.walrus_items_into.walrus_module_env.walrus_handler_types.walrus_handler_laws.walrus_body_steps.walrus_body_nesting.wasm_formats.Formats.{Small}
-use Rattle.walrus_parsed_linked.specs.walrus_parsed_items.walrus_parse.walrus_file_bodies.walrus_items_into.walrus_module_env.walrus_handler_types.walrus_handler_laws.walrus_body_steps.wasm_grammar.Modules as grammar
-use Rattle.walrus_parsed_linked.specs.walrus_parsed_items.walrus_parse.walrus_file_bodies.walrus_items_into.walrus_module_env.walrus_handler_types.walrus_handler_laws.walrus_body_steps.wasm_normal_form.Normal.{normal}
-use Rattle.walrus_parsed_linked.specs.walrus_parsed_items.walrus_parse.walrus_file_bodies.walrus_items_into.walrus_module_env.walrus_handler_types.walrus_handler_laws.walrus_body_steps.wasm_normal_form.Roles.{placed}
-use Rattle.walrus_parsed_linked.specs.walrus_parsed_items.walrus_parse.walrus_file_bodies.walrus_items_into.walrus_module_env.walrus_handler_types.walrus_handler_laws.walrus_body_steps.wasm_normal_form.Trees.{tree_of}
-use Rattle.walrus_parsed_linked.specs.walrus_parsed_items.walrus_parse.walrus_file_bodies.walrus_items_into.wasm_sections.Within.{ChunksFit}
-use Rattle.walrus_parsed_linked.specs.walrus_parsed_items.walrus_parse.walrus_file_bodies.walrus_items_into.walrus_module_env.walrus_handler_types.walrus_handler_laws.walrus_body_steps.walrus_body_nesting.Opens.{same}
-use Rattle.walrus_parsed_linked.specs.walrus_parsed_items.walrus_parse.walrus_file_bodies.walrus_items_into.walrus_module_env.walrus_body_parser.Points.{place_at}
-use Rattle.walrus_parsed_linked.specs.walrus_parsed_items.walrus_parse.walrus_file_bodies.walrus_items_into.walrus_module_env.walrus_handler_types.walrus_handler_laws.walrus_body_steps.walrus_body_rules.Sights.{Sight, results_of}
-use Rattle.walrus_parsed_linked.specs.walrus_parsed_items.walrus_parse.walrus_file_bodies.Read.{Waits, env_of, step_filed, step_on, steps_grow}
+use Rattle.walrus_parsed_linked.specs.walrus_parsed_items.walrus_named_bodies.walrus_file_bodies.walrus_items_into.walrus_module_env.walrus_handler_types.walrus_handler_laws.walrus_body_steps.walrus_body_nesting.wasm_formats.Formats.{Small}
+use Rattle.walrus_parsed_linked.specs.walrus_parsed_items.walrus_named_bodies.walrus_file_bodies.walrus_items_into.walrus_module_env.walrus_handler_types.walrus_handler_laws.walrus_body_steps.wasm_grammar.Modules as grammar
+use Rattle.walrus_parsed_linked.specs.walrus_parsed_items.walrus_named_bodies.walrus_file_bodies.walrus_items_into.walrus_module_env.walrus_handler_types.walrus_handler_laws.walrus_body_steps.wasm_normal_form.Normal.{normal}
+use Rattle.walrus_parsed_linked.specs.walrus_parsed_items.walrus_named_bodies.walrus_file_bodies.walrus_items_into.walrus_module_env.walrus_handler_types.walrus_handler_laws.walrus_body_steps.wasm_normal_form.Roles.{placed}
+use Rattle.walrus_parsed_linked.specs.walrus_parsed_items.walrus_named_bodies.walrus_file_bodies.walrus_items_into.walrus_module_env.walrus_handler_types.walrus_handler_laws.walrus_body_steps.wasm_normal_form.Trees.{tree_of}
+use Rattle.walrus_parsed_linked.specs.walrus_parsed_items.walrus_named_bodies.walrus_file_bodies.walrus_items_into.wasm_sections.Within.{ChunksFit}
+use Rattle.walrus_parsed_linked.specs.walrus_parsed_items.walrus_named_bodies.walrus_file_bodies.walrus_items_into.walrus_module_env.walrus_handler_types.walrus_handler_laws.walrus_body_steps.walrus_body_nesting.Opens.{same}
+use Rattle.walrus_parsed_linked.specs.walrus_parsed_items.walrus_named_bodies.walrus_file_bodies.walrus_items_into.walrus_module_env.walrus_body_parser.Points.{place_at}
+use Rattle.walrus_parsed_linked.specs.walrus_parsed_items.walrus_named_bodies.walrus_file_bodies.walrus_items_into.walrus_module_env.walrus_handler_types.walrus_handler_laws.walrus_body_steps.walrus_body_rules.Sights.{Sight, results_of}
+use Rattle.walrus_parsed_linked.specs.walrus_parsed_items.walrus_named_bodies.walrus_file_bodies.Read.{Waits, env_of, step_filed, step_on, steps_grow}
 use Rattle.walrus_forms.specs.declared.value.ValType.{ValType}
 use Rattle.walrus_function_types.specs.FunctionTypes.{params_at, results_at}
 use Rattle.walrus_function_types.specs.Growth.{EntryTypesGrow, FoundTypesStay, Grows, TablesGrowOn}
-use Rattle.walrus_parsed_linked.specs.walrus_parsed_items.walrus_parse.walrus_file_bodies.walrus_items_into.walrus_functions_into.declared.bodies.FunctionBody.{FunctionBody}
-use Rattle.walrus_parsed_linked.specs.walrus_parsed_items.walrus_parse.walrus_file_bodies.walrus_items_into.walrus_module_env.walrus_handler_types.walrus_handler_laws.Handlers.{TreesTell, told_by, tree_ids}
-use Rattle.walrus_parsed_linked.specs.walrus_parsed_items.walrus_parse.walrus_file_bodies.walrus_items_into.walrus_module_env.walrus_handler_types.walrus_handler_laws.Retyping.{Widens, handler_params}
-use Rattle.walrus_parsed_linked.specs.walrus_parsed_items.walrus_parse.walrus_file_bodies.walrus_items_into.walrus_module_env.walrus_handler_types.walrus_handler_laws.declared.handler.Handler.{Handler}
-use Rattle.walrus_parsed_linked.proofs.walrus_parse.walrus_handler_types.Growing.{function_results_grow, params_grow, picks_grow, tree_types_grow}
-use Rattle.walrus_parsed_linked.specs.walrus_parsed_items.walrus_parse.walrus_file_bodies.walrus_items_into.walrus_module_env.walrus_handler_types.Giving.{block_results, caught, tree_handlers}
+use Rattle.walrus_parsed_linked.specs.walrus_parsed_items.walrus_named_bodies.walrus_file_bodies.walrus_items_into.walrus_functions_into.declared.bodies.FunctionBody.{FunctionBody}
+use Rattle.walrus_parsed_linked.specs.walrus_parsed_items.walrus_named_bodies.walrus_file_bodies.walrus_items_into.walrus_module_env.walrus_handler_types.walrus_handler_laws.Handlers.{TreesTell, told_by, tree_ids}
+use Rattle.walrus_parsed_linked.specs.walrus_parsed_items.walrus_named_bodies.walrus_file_bodies.walrus_items_into.walrus_module_env.walrus_handler_types.walrus_handler_laws.Retyping.{Widens, handler_params}
+use Rattle.walrus_parsed_linked.specs.walrus_parsed_items.walrus_named_bodies.walrus_file_bodies.walrus_items_into.walrus_module_env.walrus_handler_types.walrus_handler_laws.declared.handler.Handler.{Handler}
+use Rattle.walrus_parsed_linked.proofs.walrus_named_bodies.walrus_handler_types.Growing.{function_results_grow, params_grow, picks_grow, tree_types_grow}
+use Rattle.walrus_parsed_linked.specs.walrus_parsed_items.walrus_named_bodies.walrus_file_bodies.walrus_items_into.walrus_module_env.walrus_handler_types.Giving.{block_results, caught, tree_handlers}
 use Rattle.walrus_parsed_linked.specs.walrus_pairing.walrus_index_maps.Maps.{Ids}
-use Rattle.walrus_parsed_linked.specs.walrus_parsed_items.walrus_parse.walrus_item_names.Names.{bare_type}
+use Rattle.walrus_parsed_linked.specs.walrus_parsed_items.walrus_named_bodies.walrus_item_names.Names.{bare_type}
 use Rattle.walrus_parsed_linked.specs.walrus_pairing.walrus_instr.BlockTypes.{picked, short_form}
 use Rattle.walrus_parsed_linked.specs.walrus_pairing.walrus_instr.declared.seq.InstrSeqType.{InstrSeqType}
 use Rattle.walrus_parsed_linked.specs.walrus_pairing.walrus_instr.declared.seq.InstrSeqType.TheVariants.{Simple, MultiValue}
-use Rattle.walrus_parsed_linked.specs.walrus_parsed_items.walrus_parse.walrus_file_bodies.walrus_items_into.walrus_tables_into.walrus_sections_into.walrus_known_sections.Items.{chunk_of}
-use Rattle.walrus_parsed_linked.specs.walrus_parsed_items.walrus_parse.walrus_file_bodies.walrus_module_bodies.Envs.{IsEnv}
-use Rattle.walrus_parsed_linked.specs.walrus_parsed_items.walrus_parse.walrus_file_bodies.walrus_module_bodies.Steps.{IsStep, State, Steps, cursor_of}
-use Rattle.walrus_parsed_linked.specs.walrus_parsed_items.walrus_parse.walrus_file_bodies.walrus_module_bodies.declared.file.FileEnv.{FileEnv}
-use Rattle.walrus_parsed_linked.specs.walrus_parsed_items.walrus_parse.walrus_file_bodies.walrus_items_into.walrus_module_env.Around.{sight_in}
-use Rattle.walrus_parsed_linked.specs.walrus_parsed_items.walrus_parse.walrus_file_bodies.walrus_items_into.walrus_module_env.Env.{if_own, own_pick, tag_type_at}
-use Rattle.walrus_parsed_linked.specs.walrus_parsed_items.walrus_parse.walrus_file_bodies.walrus_items_into.walrus_module_env.declared.env.ModuleEnv.{ModuleEnv}
+use Rattle.walrus_parsed_linked.specs.walrus_parsed_items.walrus_named_bodies.walrus_file_bodies.walrus_items_into.walrus_tables_into.walrus_sections_into.walrus_known_sections.Items.{chunk_of}
+use Rattle.walrus_parsed_linked.specs.walrus_parsed_items.walrus_named_bodies.walrus_file_bodies.walrus_module_bodies.Envs.{IsEnv}
+use Rattle.walrus_parsed_linked.specs.walrus_parsed_items.walrus_named_bodies.walrus_file_bodies.walrus_module_bodies.Steps.{IsStep, State, Steps, cursor_of}
+use Rattle.walrus_parsed_linked.specs.walrus_parsed_items.walrus_named_bodies.walrus_file_bodies.walrus_module_bodies.declared.file.FileEnv.{FileEnv}
+use Rattle.walrus_parsed_linked.specs.walrus_parsed_items.walrus_named_bodies.walrus_file_bodies.walrus_items_into.walrus_module_env.Around.{sight_in}
+use Rattle.walrus_parsed_linked.specs.walrus_parsed_items.walrus_named_bodies.walrus_file_bodies.walrus_items_into.walrus_module_env.Env.{if_own, own_pick, tag_type_at}
+use Rattle.walrus_parsed_linked.specs.walrus_parsed_items.walrus_named_bodies.walrus_file_bodies.walrus_items_into.walrus_module_env.declared.env.ModuleEnv.{ModuleEnv}
 use Rattle.walrus_parsed_linked.specs.walrus_pairing.Laws.{OperatorComesBack}
-use Rattle.walrus_parsed_linked.specs.walrus_parsed_items.walrus_parse.walrus_module.walrus_builder.Built.{contents}
-use Rattle.walrus_parsed_linked.specs.walrus_parsed_items.walrus_parse.walrus_module.walrus_types.Table.{Table}
+use Rattle.walrus_parsed_linked.specs.walrus_parsed_items.walrus_named_bodies.walrus_item_names.walrus_module.walrus_builder.Built.{contents}
+use Rattle.walrus_parsed_linked.specs.walrus_parsed_items.walrus_named_bodies.walrus_item_names.walrus_module.walrus_types.Table.{Table}
 use Rattle.walrus_parsed_groups.specs.Added.{Signature}
 use Rattle.walrus_parsed_groups.specs.Catches.{catches}
 use Rattle.walrus_parsed_groups.specs.Handlers.{signature_of, signatures}

@@ -5,7 +5,7 @@ use Rattle.walrus_forms.specs.declared.value.ValType.{ValType}
 use Rattle.walrus_forms.specs.Kinds.{Kind, function_kind}
 use Rattle.walrus_forms.specs.Records.{TypeGroup}
 use Rattle.walrus_forms.specs.Same.{same_kind}
-use Rattle.walrus_parsed_linked.specs.walrus_parsed_items.walrus_parse.walrus_module.walrus_types.Table.{Table}
+use Rattle.walrus_parsed_linked.specs.walrus_parsed_items.walrus_named_bodies.walrus_item_names.walrus_module.walrus_types.Table.{Table}
 use Rattle.walrus_parsed_linked.specs.walrus_pairing.walrus_instr.BlockTypes.{picked}
 
 -- what a handler takes and gives: the parameters of the tag that it catches, none if it catches all, and the results of its block

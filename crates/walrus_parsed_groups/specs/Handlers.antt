@@ -1,9 +1,9 @@
 -- What handlers of legacy `try`s take and give, by a table of types.
 use Rattle.std.specs.Prelude.{List, [], ◌∷◌, Option, Some, None, IsSome}
 use Rattle.walrus_forms.specs.declared.value.ValType.{ValType}
-use Rattle.walrus_parsed_linked.specs.walrus_parsed_items.walrus_parse.walrus_module.walrus_types.Table.{Table}
-use Rattle.walrus_parsed_linked.specs.walrus_parsed_items.walrus_parse.walrus_file_bodies.walrus_items_into.walrus_module_env.walrus_handler_types.walrus_handler_laws.declared.handler.Handler.{Handler}
-use Rattle.walrus_parsed_linked.specs.walrus_parsed_items.walrus_parse.walrus_file_bodies.walrus_items_into.walrus_module_env.walrus_handler_types.Giving.{block_results, caught}
+use Rattle.walrus_parsed_linked.specs.walrus_parsed_items.walrus_named_bodies.walrus_item_names.walrus_module.walrus_types.Table.{Table}
+use Rattle.walrus_parsed_linked.specs.walrus_parsed_items.walrus_named_bodies.walrus_file_bodies.walrus_items_into.walrus_module_env.walrus_handler_types.walrus_handler_laws.declared.handler.Handler.{Handler}
+use Rattle.walrus_parsed_linked.specs.walrus_parsed_items.walrus_named_bodies.walrus_file_bodies.walrus_items_into.walrus_module_env.walrus_handler_types.Giving.{block_results, caught}
 use Rattle.walrus_parsed_groups.specs.Added.{Signature}
 
 abbrev pub signature_of : Option (List ValType) → Option (List ValType) → List Signature

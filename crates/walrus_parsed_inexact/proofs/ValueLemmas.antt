@@ -24,7 +24,7 @@ use Rattle.walrus_parsed_served.specs.walrus_parsed_linked.walrus_pairing.wasm_o
 use Rattle.walrus_parsed_served.specs.walrus_parsed_linked.walrus_pairing.wasm_operators.declared.block_type.BlockType.TheVariants as blocks
 use Rattle.wasm_inexact_modules.specs.Inexact.{InexactField, InexactForm, InexactHeap, InexactItem, InexactOperator, InexactRef, InexactValue, InexactValues, InexactWord, InexactWritten}
 use Rattle.walrus_parsed_served.specs.walrus_parsed_linked.walrus_pairing.wasm_operators.Names.{Renaming, renamed_item, renamed_operator, renamed_heap as renamed_written, renamed_value as renamed_word}
-use Rattle.walrus_parsed_served.specs.walrus_parsed_linked.walrus_parsed_items.walrus_parse.walrus_file_bodies.walrus_items_into.walrus_module_env.walrus_body_parser.wasm_operators.Operators.{Seen}
+use Rattle.walrus_parsed_served.specs.walrus_parsed_linked.walrus_parsed_items.walrus_named_bodies.walrus_file_bodies.walrus_items_into.walrus_module_env.walrus_body_parser.wasm_operators.Operators.{Seen}
 use Rattle.walrus_parsed_served.specs.walrus_parsed_linked.walrus_pairing.wasm_operators.wasm_ref_types.declared.heap.HeapType.TheVariants as written
 use Rattle.walrus_parsed_served.specs.walrus_parsed_linked.walrus_pairing.wasm_operators.wasm_ref_types.declared.heap.HeapType.{HeapType as WrittenHeap}
 use Rattle.walrus_parsed_served.specs.walrus_parsed_linked.walrus_pairing.wasm_operators.wasm_ref_types.declared.value.ValType.TheVariants as words

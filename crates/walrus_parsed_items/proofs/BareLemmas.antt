@@ -3,7 +3,7 @@ use Rattle.std.specs.Prelude.{◌≡◌, List, [], ◌∷◌, map, Option, Some,
 use Rattle.std.specs.Option.{option_map}
 use Rattle.std.proofs.Common.{ap, sym, ◌∙◌}
 use Rattle.walrus_arena.specs.Arena.{Arena}
-use Rattle.walrus_into_laws.specs.walrus_parse.walrus_item_names.Called.{bare_items}
+use Rattle.walrus_into_laws.specs.walrus_named_bodies.walrus_item_names.Called.{bare_items}
 use Rattle.walrus_into_laws.specs.walrus_meaning.Meaning.{slots_of}
 
 -- of each item the same is seen without its name

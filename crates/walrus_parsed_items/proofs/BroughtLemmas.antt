@@ -24,8 +24,8 @@ use Rattle.walrus_into_laws.specs.walrus_meaning.walrus_linked.walrus_module_ite
 use Rattle.walrus_into_laws.specs.walrus_meaning.walrus_linked.walrus_module_items.declared.memory.Memory.{Memory}
 use Rattle.walrus_into_laws.specs.walrus_meaning.walrus_linked.walrus_module_items.declared.table.Table.{Table}
 use Rattle.walrus_into_laws.specs.walrus_meaning.walrus_linked.walrus_module_items.declared.tag.Tag.{Tag}
-use Rattle.walrus_into_laws.specs.walrus_parse.walrus_file_bodies.walrus_items_into.walrus_tables_into.walrus_sections.walrus_roots.Items.{item}
-use Rattle.walrus_into_laws.specs.walrus_parse.walrus_file_bodies.walrus_items_into.walrus_tables_into.walrus_sections.walrus_roots.declared.item.Item.{Item}
+use Rattle.walrus_into_laws.specs.walrus_named_bodies.walrus_file_bodies.walrus_items_into.walrus_tables_into.walrus_sections.walrus_roots.Items.{item}
+use Rattle.walrus_into_laws.specs.walrus_named_bodies.walrus_file_bodies.walrus_items_into.walrus_tables_into.walrus_sections.walrus_roots.declared.item.Item.{Item}
 use Rattle.walrus_parsed_items.specs.Items.{HasItems, brought_by, heads}
 use Rattle.walrus_parsed_items.proofs.SlotLemmas.{import_at, imports_same}
 

@@ -26,8 +26,8 @@ use Rattle.walrus_marks.specs.Named.{items_of}
 use Rattle.walrus_marks.specs.walrus_walks.ConstEvents.{ExprsTellOps, expr_names, op_names}
 use Rattle.walrus_marks.specs.walrus_walks.Events.{Event, events_of, ref_names}
 use Rattle.walrus_into_laws.specs.walrus_meaning.Words.{const_seen, own_expr, own_heap}
-use Rattle.walrus_into_laws.specs.walrus_parse.walrus_file_bodies.walrus_items_into.walrus_tables_into.walrus_sections.walrus_roots.Items.{item}
-use Rattle.walrus_into_laws.specs.walrus_parse.walrus_file_bodies.walrus_items_into.walrus_tables_into.walrus_sections.walrus_roots.declared.item.Item.{Item}
+use Rattle.walrus_into_laws.specs.walrus_named_bodies.walrus_file_bodies.walrus_items_into.walrus_tables_into.walrus_sections.walrus_roots.Items.{item}
+use Rattle.walrus_into_laws.specs.walrus_named_bodies.walrus_file_bodies.walrus_items_into.walrus_tables_into.walrus_sections.walrus_roots.declared.item.Item.{Item}
 use Rattle.walrus_parsed_items.proofs.ListLemmas.{AllOf, cons_head, cons_tail, items_join}
 
 -- of what is known, it holds of each item

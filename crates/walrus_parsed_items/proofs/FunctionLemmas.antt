@@ -6,19 +6,19 @@ use Rattle.walrus_into_laws.specs.walrus_meaning.walrus_body_writer.walrus_pairi
 use Rattle.walrus_into_laws.specs.walrus_meaning.walrus_local_function.walrus_body_locals.wasm_grammar.Modules as grammar
 use Rattle.walrus_into_laws.specs.walrus_meaning.walrus_local_function.walrus_body_locals.wasm_body_grammar.Codes.{with_bodies}
 use Rattle.walrus_arena.specs.Arena.{Arena}
-use Rattle.walrus_into_laws.specs.walrus_parse.walrus_file_bodies.walrus_items_into.walrus_functions_into.Bodies.{bodiless, bodiless_from, is_bodiless, paired, wants_body}
-use Rattle.walrus_into_laws.specs.walrus_parse.walrus_file_bodies.walrus_items_into.walrus_functions_into.declared.bodies.FunctionBody.{FunctionBody}
+use Rattle.walrus_into_laws.specs.walrus_named_bodies.walrus_file_bodies.walrus_items_into.walrus_functions_into.Bodies.{bodiless, bodiless_from, is_bodiless, paired, wants_body}
+use Rattle.walrus_into_laws.specs.walrus_named_bodies.walrus_file_bodies.walrus_items_into.walrus_functions_into.declared.bodies.FunctionBody.{FunctionBody}
 use Rattle.walrus_into_laws.specs.Renamed.{each, retyped_function}
-use Rattle.walrus_into_laws.specs.walrus_parse.walrus_module.walrus_types.walrus_items.declared.local.Local.{Local}
-use Rattle.walrus_into_laws.specs.walrus_parse.walrus_file_bodies.walrus_items_into.walrus_tables_into.walrus_sections_into.walrus_known_sections.declared.items.Chunk.{Chunk}
+use Rattle.walrus_into_laws.specs.walrus_named_bodies.walrus_item_names.walrus_module.walrus_types.walrus_items.declared.local.Local.{Local}
+use Rattle.walrus_into_laws.specs.walrus_named_bodies.walrus_file_bodies.walrus_items_into.walrus_tables_into.walrus_sections_into.walrus_known_sections.declared.items.Chunk.{Chunk}
 use Rattle.walrus_into_laws.specs.walrus_meaning.walrus_linked.Linked.{function_import}
 use Rattle.walrus_into_laws.specs.walrus_meaning.Meaning.{own_function}
-use Rattle.walrus_into_laws.specs.walrus_parse.walrus_file_bodies.walrus_module_bodies.Steps.{State, Steps}
-use Rattle.walrus_into_laws.specs.walrus_parse.walrus_file_bodies.walrus_module_bodies.declared.file.FileEnv.{FileEnv}
-use Rattle.walrus_into_laws.specs.walrus_parse.walrus_module.walrus_module_items.Functions.{type_of}
-use Rattle.walrus_into_laws.specs.walrus_parse.walrus_module.walrus_module_items.declared.function.Function.{Function}
-use Rattle.walrus_into_laws.specs.walrus_parse.walrus_module.walrus_module_items.declared.function.FunctionKind.{FunctionKind}
-use Rattle.walrus_into_laws.specs.walrus_parse.walrus_module.walrus_module_items.declared.function.FunctionKind.TheVariants as kinds
+use Rattle.walrus_into_laws.specs.walrus_named_bodies.walrus_file_bodies.walrus_module_bodies.Steps.{State, Steps}
+use Rattle.walrus_into_laws.specs.walrus_named_bodies.walrus_file_bodies.walrus_module_bodies.declared.file.FileEnv.{FileEnv}
+use Rattle.walrus_into_laws.specs.walrus_named_bodies.walrus_item_names.walrus_module.walrus_module_items.Functions.{type_of}
+use Rattle.walrus_into_laws.specs.walrus_named_bodies.walrus_item_names.walrus_module.walrus_module_items.declared.function.Function.{Function}
+use Rattle.walrus_into_laws.specs.walrus_named_bodies.walrus_item_names.walrus_module.walrus_module_items.declared.function.FunctionKind.{FunctionKind}
+use Rattle.walrus_into_laws.specs.walrus_named_bodies.walrus_item_names.walrus_module.walrus_module_items.declared.function.FunctionKind.TheVariants as kinds
 use Rattle.walrus_parsed_items.specs.Items.{head_of, heads, same}
 
 -- what a function in memory is without its body

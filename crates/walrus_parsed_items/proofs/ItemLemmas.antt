@@ -2,29 +2,29 @@
 use Rattle.std.specs.Prelude.{ℕ, ◌≡◌, List, [], length, refl}
 use Rattle.std.proofs.Common.{ap, sym, subst, ◌∙◌}
 use Rattle.walrus_into_laws.specs.walrus_meaning.walrus_local_function.walrus_body_locals.wasm_grammar.Modules as grammar
-use Rattle.walrus_into_laws.specs.walrus_parse.walrus_file_bodies.walrus_items_into.wasm_module_rules.wasm_modules.Modules.{module_of}
+use Rattle.walrus_into_laws.specs.walrus_named_bodies.walrus_file_bodies.walrus_items_into.wasm_module_rules.wasm_modules.Modules.{module_of}
 use Rattle.walrus_arena.specs.Arena.{Arena}
-use Rattle.walrus_into_laws.specs.walrus_parse.walrus_file_bodies.Laws.{BodiesReadFiles}
-use Rattle.walrus_into_laws.specs.walrus_parse.walrus_file_bodies.walrus_items_into.walrus_functions_into.Functions.{AreTyped}
-use Rattle.walrus_into_laws.specs.walrus_parse.walrus_file_bodies.walrus_items_into.walrus_functions_into.Laws.{ReadFunctionsStand, read_bodies}
+use Rattle.walrus_into_laws.specs.walrus_named_bodies.walrus_file_bodies.Laws.{BodiesReadFiles}
+use Rattle.walrus_into_laws.specs.walrus_named_bodies.walrus_file_bodies.walrus_items_into.walrus_functions_into.Functions.{AreTyped}
+use Rattle.walrus_into_laws.specs.walrus_named_bodies.walrus_file_bodies.walrus_items_into.walrus_functions_into.Laws.{ReadFunctionsStand, read_bodies}
 use Rattle.walrus_into_laws.specs.walrus_meaning.walrus_body_writer.walrus_pairing.walrus_index_maps.Maps.{Ids}
 use Rattle.walrus_into_laws.specs.Functions.{FunctionsFill}
 use Rattle.walrus_into_laws.specs.Meaning.{AreFilled, ModuleMeans, OrderedStay, OthersStay, type_id, types_in}
-use Rattle.walrus_into_laws.specs.walrus_parse.walrus_file_bodies.walrus_items_into.Filled.{IsFilledFrom}
-use Rattle.walrus_into_laws.specs.walrus_parse.walrus_file_bodies.walrus_items_into.Spaces.{Spaces}
-use Rattle.walrus_into_laws.specs.walrus_parse.walrus_item_names.Holder.{Holder}
-use Rattle.walrus_into_laws.specs.walrus_parse.walrus_item_names.Names.{bare_table, bare_memory, bare_tag, bare_global, bare_element, bare_data, bare_function}
-use Rattle.walrus_into_laws.specs.walrus_parse.walrus_file_bodies.walrus_items_into.walrus_tables_into.walrus_sections_into.walrus_known_sections.State.{state_of}
-use Rattle.walrus_into_laws.specs.walrus_parse.walrus_file_bodies.walrus_items_into.walrus_tables_into.walrus_sections_into.walrus_known_sections.declared.sections.Sections.{Sections}
+use Rattle.walrus_into_laws.specs.walrus_named_bodies.walrus_file_bodies.walrus_items_into.Filled.{IsFilledFrom}
+use Rattle.walrus_into_laws.specs.walrus_named_bodies.walrus_file_bodies.walrus_items_into.Spaces.{Spaces}
+use Rattle.walrus_into_laws.specs.walrus_named_bodies.walrus_item_names.Holder.{Holder}
+use Rattle.walrus_into_laws.specs.walrus_named_bodies.walrus_item_names.Names.{bare_table, bare_memory, bare_tag, bare_global, bare_element, bare_data, bare_function}
+use Rattle.walrus_into_laws.specs.walrus_named_bodies.walrus_file_bodies.walrus_items_into.walrus_tables_into.walrus_sections_into.walrus_known_sections.State.{state_of}
+use Rattle.walrus_into_laws.specs.walrus_named_bodies.walrus_file_bodies.walrus_items_into.walrus_tables_into.walrus_sections_into.walrus_known_sections.declared.sections.Sections.{Sections}
 use Rattle.walrus_into_laws.specs.walrus_meaning.Meaning.{means, slots_of, own_import, own_export, own_table, own_memory, own_tag, own_global, own_element, own_segment}
-use Rattle.walrus_into_laws.specs.walrus_parse.walrus_module.Parts.{Module, parts}
-use Rattle.walrus_into_laws.specs.walrus_parse.walrus_module.declared.module.Module.{Module as Whole}
-use Rattle.walrus_into_laws.specs.walrus_parse.walrus_module.walrus_module_items.declared.function.Function.{Function}
-use Rattle.walrus_into_laws.specs.walrus_parse.Parsed.{read_features}
-use Rattle.walrus_into_laws.specs.walrus_parse.walrus_file_bodies.walrus_items_into.walrus_tables_into.walrus_sections_into.Becomes.{look_of}
-use Rattle.walrus_into_laws.specs.walrus_parse.walrus_file_bodies.walrus_items_into.walrus_functions_into.walrus_types_into.Into.{NewTypesStand, TypesNameBelow}
+use Rattle.walrus_into_laws.specs.walrus_named_bodies.walrus_item_names.walrus_module.Parts.{Module, parts}
+use Rattle.walrus_into_laws.specs.walrus_named_bodies.walrus_item_names.walrus_module.declared.module.Module.{Module as Whole}
+use Rattle.walrus_into_laws.specs.walrus_named_bodies.walrus_item_names.walrus_module.walrus_module_items.declared.function.Function.{Function}
+use Rattle.walrus_into_laws.specs.walrus_named_bodies.Parsed.{read_features}
+use Rattle.walrus_into_laws.specs.walrus_named_bodies.walrus_file_bodies.walrus_items_into.walrus_tables_into.walrus_sections_into.Becomes.{look_of}
+use Rattle.walrus_into_laws.specs.walrus_named_bodies.walrus_file_bodies.walrus_items_into.walrus_functions_into.walrus_types_into.Into.{NewTypesStand, TypesNameBelow}
 use Rattle.walrus_into_laws.specs.walrus_meaning.walrus_body_writer.walrus_pairing.wasm_operators.wasm_features.declared.WasmFeatures.{WasmFeatures}
-use Rattle.walrus_into_laws.specs.walrus_parse.walrus_file_bodies.walrus_items_into.wasm_sections.Laws.{ReadsSections}
+use Rattle.walrus_into_laws.specs.walrus_named_bodies.walrus_file_bodies.walrus_items_into.wasm_sections.Laws.{ReadsSections}
 use Rattle.walrus_parsed_items.specs.Items.{HasItems, ReadModulesHaveItems, heads, same}
 use Rattle.walrus_parsed_items.proofs.FunctionLemmas.{head_in, heads_filled, heads_meant, heads_retyped, none_brought, steps_heads}
 use Rattle.walrus_parsed_items.proofs.BareLemmas.{same_seen}

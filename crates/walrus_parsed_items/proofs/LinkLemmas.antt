@@ -14,8 +14,8 @@ use Rattle.walrus_into_laws.specs.walrus_meaning.walrus_module.Items.{Lives, bro
 use Rattle.walrus_into_laws.specs.walrus_meaning.walrus_module.Parts.{Module, parts}
 use Rattle.walrus_into_laws.specs.walrus_meaning.walrus_linked.walrus_module_items.declared.export.ExportItem.{ExportItem}
 use Rattle.walrus_into_laws.specs.walrus_meaning.walrus_linked.walrus_module_items.declared.export.ExportItem.TheVariants as exported
-use Rattle.walrus_into_laws.specs.walrus_parse.Parsed.{read_features}
-use Rattle.walrus_into_laws.specs.walrus_parse.walrus_file_bodies.walrus_items_into.walrus_tables_into.walrus_sections.walrus_roots.declared.item.Item.{Item}
+use Rattle.walrus_into_laws.specs.walrus_named_bodies.Parsed.{read_features}
+use Rattle.walrus_into_laws.specs.walrus_named_bodies.walrus_file_bodies.walrus_items_into.walrus_tables_into.walrus_sections.walrus_roots.declared.item.Item.{Item}
 use Rattle.walrus_parsed_items.specs.Items.{HasItems, ReadModulesHaveItems, file_of, head_of, same}
 use Rattle.walrus_parsed_items.specs.Links.{ReadModulesHaveLinks}
 use Rattle.walrus_parsed_items.proofs.BroughtLemmas.{brought_is, file_brings, import_of_meant, item_of}

@@ -15,7 +15,7 @@ use Rattle.wasm_import_links.specs.Full.{AreFull, ReadModulesAreFull}
 use Rattle.wasm_module_rules.specs.Linked.{AllBelow, AreListed, GoesInto, IsFunctionType}
 use Rattle.wasm_import_links.specs.wasm_ruled_modules.Rules.{AreExprs, GlobalsSee, IsExpr, IsInit, IsPlaced, IsRuled, ItemsBelow, ItemsKnown, ReadModulesAreRuled, is_imported, knows, knows_imported, memory_wide, own_init, table_wide}
 use Rattle.walrus_arena.specs.Arena.{item_at}
-use Rattle.walrus_into_laws.specs.walrus_parse.walrus_file_bodies.Laws.{BodiesReadFiles}
+use Rattle.walrus_into_laws.specs.walrus_named_bodies.walrus_file_bodies.Laws.{BodiesReadFiles}
 use Rattle.walrus_function_types.specs.Growth.{FoundTypesStay, TablesGrowOn}
 use Rattle.walrus_into_laws.specs.Groups.{ReadTypesAreDeclared}
 use Rattle.walrus_into_laws.specs.walrus_meaning.walrus_body_writer.walrus_pairing.walrus_index_maps.Maps.{Ids}
@@ -28,26 +28,26 @@ use Rattle.walrus_marks.specs.walrus_walks.ConstEvents.{ExprsTellOps, expr_names
 use Rattle.walrus_marks.specs.walrus_walks.Events.{Event, NamesFunction, events_of, ref_names, val_names}
 use Rattle.walrus_into_laws.specs.walrus_meaning.Meaning.{means, own_data_mode, own_element, own_element_mode, own_elements, own_function, own_global, own_segment, own_table, own_tag, own_value_of}
 use Rattle.walrus_into_laws.specs.walrus_meaning.Words.{own_expr}
-use Rattle.walrus_into_laws.specs.walrus_parse.walrus_module.Items.{Lives, LivesIn}
-use Rattle.walrus_into_laws.specs.walrus_parse.walrus_module.Parts.{Module, parts}
-use Rattle.walrus_into_laws.specs.walrus_parse.walrus_module.walrus_module_items.Functions.{type_of}
-use Rattle.walrus_into_laws.specs.walrus_parse.walrus_module.walrus_module_items.declared.data.DataKind.{DataKind}
-use Rattle.walrus_into_laws.specs.walrus_parse.walrus_module.walrus_module_items.declared.data.DataKind.TheVariants as datas
-use Rattle.walrus_into_laws.specs.walrus_parse.walrus_module.walrus_module_items.declared.element.ElementItems.{ElementItems}
-use Rattle.walrus_into_laws.specs.walrus_parse.walrus_module.walrus_module_items.declared.element.ElementItems.TheVariants as holds
-use Rattle.walrus_into_laws.specs.walrus_parse.walrus_module.walrus_module_items.declared.element.ElementKind.{ElementKind}
-use Rattle.walrus_into_laws.specs.walrus_parse.walrus_module.walrus_module_items.declared.element.ElementKind.TheVariants as elements
-use Rattle.walrus_into_laws.specs.walrus_parse.walrus_module.walrus_module_items.declared.function.Function.{Function}
-use Rattle.walrus_into_laws.specs.walrus_parse.walrus_module.walrus_module_items.declared.global.GlobalKind.{GlobalKind}
-use Rattle.walrus_into_laws.specs.walrus_parse.walrus_module.walrus_module_items.declared.global.GlobalKind.TheVariants as globals
-use Rattle.walrus_into_laws.specs.walrus_parse.walrus_module.walrus_module_items.declared.data.Data.{Data}
-use Rattle.walrus_into_laws.specs.walrus_parse.walrus_module.walrus_module_items.declared.element.Element.{Element}
-use Rattle.walrus_into_laws.specs.walrus_parse.walrus_module.walrus_module_items.declared.global.Global.{Global}
-use Rattle.walrus_into_laws.specs.walrus_parse.walrus_module.walrus_module_items.declared.table.Table.{Table}
-use Rattle.walrus_into_laws.specs.walrus_parse.walrus_module.walrus_module_items.declared.tag.Tag.{Tag}
-use Rattle.walrus_into_laws.specs.walrus_parse.walrus_file_bodies.walrus_items_into.Numbers.{types_in}
-use Rattle.walrus_into_laws.specs.walrus_parse.Parsed.{read_features}
-use Rattle.walrus_into_laws.specs.walrus_parse.walrus_file_bodies.walrus_items_into.walrus_tables_into.walrus_sections_into.Becomes.{look_of}
+use Rattle.walrus_into_laws.specs.walrus_named_bodies.walrus_item_names.walrus_module.Items.{Lives, LivesIn}
+use Rattle.walrus_into_laws.specs.walrus_named_bodies.walrus_item_names.walrus_module.Parts.{Module, parts}
+use Rattle.walrus_into_laws.specs.walrus_named_bodies.walrus_item_names.walrus_module.walrus_module_items.Functions.{type_of}
+use Rattle.walrus_into_laws.specs.walrus_named_bodies.walrus_item_names.walrus_module.walrus_module_items.declared.data.DataKind.{DataKind}
+use Rattle.walrus_into_laws.specs.walrus_named_bodies.walrus_item_names.walrus_module.walrus_module_items.declared.data.DataKind.TheVariants as datas
+use Rattle.walrus_into_laws.specs.walrus_named_bodies.walrus_item_names.walrus_module.walrus_module_items.declared.element.ElementItems.{ElementItems}
+use Rattle.walrus_into_laws.specs.walrus_named_bodies.walrus_item_names.walrus_module.walrus_module_items.declared.element.ElementItems.TheVariants as holds
+use Rattle.walrus_into_laws.specs.walrus_named_bodies.walrus_item_names.walrus_module.walrus_module_items.declared.element.ElementKind.{ElementKind}
+use Rattle.walrus_into_laws.specs.walrus_named_bodies.walrus_item_names.walrus_module.walrus_module_items.declared.element.ElementKind.TheVariants as elements
+use Rattle.walrus_into_laws.specs.walrus_named_bodies.walrus_item_names.walrus_module.walrus_module_items.declared.function.Function.{Function}
+use Rattle.walrus_into_laws.specs.walrus_named_bodies.walrus_item_names.walrus_module.walrus_module_items.declared.global.GlobalKind.{GlobalKind}
+use Rattle.walrus_into_laws.specs.walrus_named_bodies.walrus_item_names.walrus_module.walrus_module_items.declared.global.GlobalKind.TheVariants as globals
+use Rattle.walrus_into_laws.specs.walrus_named_bodies.walrus_item_names.walrus_module.walrus_module_items.declared.data.Data.{Data}
+use Rattle.walrus_into_laws.specs.walrus_named_bodies.walrus_item_names.walrus_module.walrus_module_items.declared.element.Element.{Element}
+use Rattle.walrus_into_laws.specs.walrus_named_bodies.walrus_item_names.walrus_module.walrus_module_items.declared.global.Global.{Global}
+use Rattle.walrus_into_laws.specs.walrus_named_bodies.walrus_item_names.walrus_module.walrus_module_items.declared.table.Table.{Table}
+use Rattle.walrus_into_laws.specs.walrus_named_bodies.walrus_item_names.walrus_module.walrus_module_items.declared.tag.Tag.{Tag}
+use Rattle.walrus_into_laws.specs.walrus_named_bodies.walrus_file_bodies.walrus_items_into.Numbers.{types_in}
+use Rattle.walrus_into_laws.specs.walrus_named_bodies.Parsed.{read_features}
+use Rattle.walrus_into_laws.specs.walrus_named_bodies.walrus_file_bodies.walrus_items_into.walrus_tables_into.walrus_sections_into.Becomes.{look_of}
 use Rattle.walrus_into_laws.specs.walrus_types_into.Into.{NewTypesStand, TypesNameBelow}
 use Rattle.walrus_parsed_items.specs.Items.{HasItems, ReadModulesHaveItems, file_of, head_of, heads, same}
 use Rattle.walrus_parsed_items.proofs.SlotLemmas.{each_at, flags, flags_seen, live_at, seen_at}

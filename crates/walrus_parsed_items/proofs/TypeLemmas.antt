@@ -4,21 +4,21 @@ use Rattle.std.specs.List.{AllByRecursion}
 use Rattle.std.specs.Option.{is_some, option_map, unwrap_or}
 use Rattle.std.proofs.Common.{ap, sym, ◌∙◌, subst}
 use Rattle.walrus_config.specs.declared.config.ModuleConfig.{ModuleConfig}
-use Rattle.walrus_into_laws.specs.walrus_parse.walrus_file_bodies.Read.{steps_grow}
+use Rattle.walrus_into_laws.specs.walrus_named_bodies.walrus_file_bodies.Read.{steps_grow}
 use Rattle.walrus_walks.specs.walrus_forms.Kinds.{Kind}
 use Rattle.walrus_walks.specs.walrus_forms.Records.{TypeGroup}
 use Rattle.walrus_walks.specs.walrus_forms.Renaming.{at, renamed_kind}
 use Rattle.walrus_function_types.specs.Growth.{FoundTypesStay, TablesGrowOn}
 use Rattle.walrus_into_laws.specs.Groups.{AreDeclared, ReadTypesAreDeclared}
 use Rattle.walrus_into_laws.specs.walrus_meaning.walrus_body_writer.walrus_pairing.walrus_index_maps.Maps.{Ids}
-use Rattle.walrus_into_laws.specs.walrus_parse.walrus_item_names.Holder.{Holder}
-use Rattle.walrus_into_laws.specs.walrus_parse.walrus_item_names.Names.{bare_type}
-use Rattle.walrus_into_laws.specs.walrus_parse.walrus_file_bodies.walrus_items_into.Numbers.{types_in}
-use Rattle.walrus_into_laws.specs.walrus_parse.walrus_file_bodies.walrus_items_into.walrus_tables_into.walrus_sections_into.walrus_known_sections.State.{state_of}
-use Rattle.walrus_into_laws.specs.walrus_parse.walrus_file_bodies.walrus_items_into.walrus_tables_into.walrus_sections_into.walrus_known_sections.Types.{kinds_in}
-use Rattle.walrus_into_laws.specs.walrus_parse.walrus_module.Items.{written, written_type}
-use Rattle.walrus_into_laws.specs.walrus_parse.walrus_module.declared.module.Module.{Module as Whole}
-use Rattle.walrus_into_laws.specs.walrus_parse.Parsed.{IsReadAs, read_features}
+use Rattle.walrus_into_laws.specs.walrus_named_bodies.walrus_item_names.Holder.{Holder}
+use Rattle.walrus_into_laws.specs.walrus_named_bodies.walrus_item_names.Names.{bare_type}
+use Rattle.walrus_into_laws.specs.walrus_named_bodies.walrus_file_bodies.walrus_items_into.Numbers.{types_in}
+use Rattle.walrus_into_laws.specs.walrus_named_bodies.walrus_file_bodies.walrus_items_into.walrus_tables_into.walrus_sections_into.walrus_known_sections.State.{state_of}
+use Rattle.walrus_into_laws.specs.walrus_named_bodies.walrus_file_bodies.walrus_items_into.walrus_tables_into.walrus_sections_into.walrus_known_sections.Types.{kinds_in}
+use Rattle.walrus_into_laws.specs.walrus_named_bodies.walrus_item_names.walrus_module.Items.{written, written_type}
+use Rattle.walrus_into_laws.specs.walrus_named_bodies.walrus_item_names.walrus_module.declared.module.Module.{Module as Whole}
+use Rattle.walrus_into_laws.specs.walrus_named_bodies.Parsed.{IsReadAs, read_features}
 use Rattle.walrus_walks.specs.walrus_types.Items.{Item}
 use Rattle.walrus_walks.specs.walrus_types.Table.{Table, type_at}
 use Rattle.walrus_into_laws.specs.walrus_types_into.Into.{NewTypesStand, TypesNameBelow}

@@ -2,17 +2,17 @@
 use Rattle.std.specs.Prelude.{ℕ, ◌≡◌, ◌<◌, List, All, map, Option, Some, None}
 use Rattle.std.specs.Option.{option_map}
 use Rattle.walrus_into_laws.specs.walrus_meaning.walrus_local_function.walrus_body_locals.wasm_grammar.Modules as grammar
-use Rattle.walrus_into_laws.specs.walrus_parse.walrus_file_bodies.walrus_items_into.wasm_module_rules.wasm_modules.Modules.{Reads, module_of}
+use Rattle.walrus_into_laws.specs.walrus_named_bodies.walrus_file_bodies.walrus_items_into.wasm_module_rules.wasm_modules.Modules.{Reads, module_of}
 use Rattle.walrus_config.specs.declared.config.ModuleConfig.{ModuleConfig}
 use Rattle.walrus_into_laws.specs.walrus_meaning.walrus_body_writer.walrus_pairing.walrus_index_maps.Maps.{Ids}
 use Rattle.walrus_into_laws.specs.Meaning.{type_id}
 use Rattle.walrus_into_laws.specs.Renamed.{each, retyped_table, retyped_tag, retyped_global, retyped_element, retyped_segment}
-use Rattle.walrus_into_laws.specs.walrus_parse.walrus_file_bodies.walrus_items_into.walrus_tables_into.walrus_sections_into.walrus_known_sections.State.{state_of}
+use Rattle.walrus_into_laws.specs.walrus_named_bodies.walrus_file_bodies.walrus_items_into.walrus_tables_into.walrus_sections_into.walrus_known_sections.State.{state_of}
 use Rattle.walrus_into_laws.specs.walrus_meaning.Meaning.{means}
-use Rattle.walrus_into_laws.specs.walrus_parse.walrus_module.Parts.{parts}
-use Rattle.walrus_into_laws.specs.walrus_parse.walrus_module.declared.module.Module.{Module as Whole}
-use Rattle.walrus_into_laws.specs.walrus_parse.Parsed.{IsReadAs, read_features}
-use Rattle.walrus_into_laws.specs.walrus_parse.walrus_file_bodies.walrus_items_into.walrus_tables_into.walrus_sections_into.Becomes.{look_of}
+use Rattle.walrus_into_laws.specs.walrus_named_bodies.walrus_item_names.walrus_module.Parts.{parts}
+use Rattle.walrus_into_laws.specs.walrus_named_bodies.walrus_item_names.walrus_module.declared.module.Module.{Module as Whole}
+use Rattle.walrus_into_laws.specs.walrus_named_bodies.Parsed.{IsReadAs, read_features}
+use Rattle.walrus_into_laws.specs.walrus_named_bodies.walrus_file_bodies.walrus_items_into.walrus_tables_into.walrus_sections_into.Becomes.{look_of}
 
 -- the import that brings a function, if one does
 abbrev pub brought_by : grammar.Origin grammar.Body → Option ℕ

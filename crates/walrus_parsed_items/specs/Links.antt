@@ -10,9 +10,9 @@ use Rattle.walrus_into_laws.specs.walrus_meaning.walrus_module.Parts.{Module, pa
 use Rattle.walrus_into_laws.specs.walrus_meaning.walrus_module.declared.module.Module.{Module as Whole}
 use Rattle.walrus_into_laws.specs.walrus_meaning.walrus_linked.walrus_module_items.declared.export.Export.{Export}
 use Rattle.walrus_into_laws.specs.walrus_meaning.walrus_linked.walrus_module_items.declared.import.Import.{Import}
-use Rattle.walrus_into_laws.specs.walrus_parse.Parsed.{IsReadAs}
-use Rattle.walrus_into_laws.specs.walrus_parse.walrus_file_bodies.walrus_items_into.walrus_tables_into.walrus_sections.walrus_roots.Items.{item}
-use Rattle.walrus_into_laws.specs.walrus_parse.walrus_file_bodies.walrus_items_into.walrus_tables_into.walrus_sections.walrus_roots.declared.item.Item.{Item}
+use Rattle.walrus_into_laws.specs.walrus_named_bodies.Parsed.{IsReadAs}
+use Rattle.walrus_into_laws.specs.walrus_named_bodies.walrus_file_bodies.walrus_items_into.walrus_tables_into.walrus_sections.walrus_roots.Items.{item}
+use Rattle.walrus_into_laws.specs.walrus_named_bodies.walrus_file_bodies.walrus_items_into.walrus_tables_into.walrus_sections.walrus_roots.declared.item.Item.{Item}
 
 -- each import names a live item that names it back, and each imported item a live import that names it; what is exported or started lives
 pub record HasLinks (m : Module) : Type 0 where

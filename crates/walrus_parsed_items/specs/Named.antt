@@ -6,14 +6,14 @@ use Rattle.walrus_arena.specs.Arena.{item_at}
 use Rattle.walrus_config.specs.declared.config.ModuleConfig.{ModuleConfig}
 use Rattle.walrus_into_laws.specs.walrus_meaning.walrus_body_writer.walrus_pairing.walrus_index_maps.Maps.{Ids}
 use Rattle.walrus_into_laws.specs.walrus_meaning.walrus_linked.Names.{names}
-use Rattle.walrus_into_laws.specs.walrus_parse.walrus_module.Items.{Lives}
-use Rattle.walrus_into_laws.specs.walrus_parse.walrus_module.Parts.{Module, parts}
-use Rattle.walrus_into_laws.specs.walrus_parse.walrus_module.declared.module.Module.{Module as Whole}
-use Rattle.walrus_into_laws.specs.walrus_parse.walrus_module.walrus_module_items.Functions.{type_of}
-use Rattle.walrus_into_laws.specs.walrus_parse.walrus_module.walrus_module_items.declared.function.Function.{Function}
-use Rattle.walrus_into_laws.specs.walrus_parse.Parsed.{IsReadAs}
-use Rattle.walrus_into_laws.specs.walrus_parse.walrus_file_bodies.walrus_items_into.walrus_tables_into.walrus_sections.walrus_roots.Items.{item}
-use Rattle.walrus_into_laws.specs.walrus_parse.walrus_file_bodies.walrus_items_into.walrus_tables_into.walrus_sections.walrus_roots.declared.item.Item.{Item}
+use Rattle.walrus_into_laws.specs.walrus_named_bodies.walrus_item_names.walrus_module.Items.{Lives}
+use Rattle.walrus_into_laws.specs.walrus_named_bodies.walrus_item_names.walrus_module.Parts.{Module, parts}
+use Rattle.walrus_into_laws.specs.walrus_named_bodies.walrus_item_names.walrus_module.declared.module.Module.{Module as Whole}
+use Rattle.walrus_into_laws.specs.walrus_named_bodies.walrus_item_names.walrus_module.walrus_module_items.Functions.{type_of}
+use Rattle.walrus_into_laws.specs.walrus_named_bodies.walrus_item_names.walrus_module.walrus_module_items.declared.function.Function.{Function}
+use Rattle.walrus_into_laws.specs.walrus_named_bodies.Parsed.{IsReadAs}
+use Rattle.walrus_into_laws.specs.walrus_named_bodies.walrus_file_bodies.walrus_items_into.walrus_tables_into.walrus_sections.walrus_roots.Items.{item}
+use Rattle.walrus_into_laws.specs.walrus_named_bodies.walrus_file_bodies.walrus_items_into.walrus_tables_into.walrus_sections.walrus_roots.declared.item.Item.{Item}
 
 -- the items of the space are no types, and have no bodies
 abbrev pub HasNoBodies : Space → Type 0

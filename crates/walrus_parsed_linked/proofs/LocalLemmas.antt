@@ -9,7 +9,7 @@ use Rattle.walrus_parsed_locals.specs.walrus_parsed_bodies.walrus_parsed_items.w
 use Rattle.walrus_types.specs.walrus_items.declared.local.Local.{Local}
 use Rattle.walrus_body_walks.specs.walrus_marks.Named.{event_items, items_of}
 use Rattle.walrus_body_walks.specs.walrus_marks.walrus_walks.Events.{events_of, val_names}
-use Rattle.walrus_parsed_locals.specs.walrus_parsed_bodies.walrus_parsed_items.walrus_parse.walrus_file_bodies.walrus_items_into.walrus_tables_into.walrus_sections.walrus_roots.declared.item.Item.{Item}
+use Rattle.walrus_parsed_locals.specs.walrus_parsed_bodies.walrus_parsed_items.walrus_named_bodies.walrus_file_bodies.walrus_items_into.walrus_tables_into.walrus_sections.walrus_roots.declared.item.Item.{Item}
 use Rattle.walrus_parsed_locals.proofs.walrus_parsed_bodies.walrus_parsed_items.ListLemmas.{AllOf, all_join, some_is}
 use Rattle.walrus_parsed_linked.proofs.ValueLemmas.{GoodValues}
 

@@ -2,7 +2,7 @@
 use Rattle.std.specs.Prelude.{ℕ, zero, suc, ◌≡◌, ◌⊎◌, false, List, [], ◌∷◌, ◌++◌, Option, Some, None, MatchOption, slice_index_or, refl}
 use Rattle.std.specs.Option.{option_map, option_or}
 use Rattle.std.proofs.Common.{ap, sym, ◌∙◌, subst, inl, inr, append-nil}
-use Rattle.walrus_parsed_locals.specs.walrus_parsed_bodies.walrus_parsed_items.walrus_parse.walrus_file_bodies.walrus_items_into.walrus_module_env.walrus_handler_types.walrus_body_steps.walrus_body_nesting.wasm_formats.declared.fault.Space.TheVariants as spaces
+use Rattle.walrus_parsed_locals.specs.walrus_parsed_bodies.walrus_parsed_items.walrus_named_bodies.walrus_file_bodies.walrus_items_into.walrus_module_env.walrus_handler_types.walrus_body_steps.walrus_body_nesting.wasm_formats.declared.fault.Space.TheVariants as spaces
 use Rattle.walrus_parsed_locals.specs.walrus_parsed_bodies.walrus_parsed_items.walrus_into_laws.walrus_meaning.walrus_linked.walrus_module.walrus_builder.Built.{Seq}
 use Rattle.walrus_forms.specs.Kinds.{Kind, function_kind}
 use Rattle.walrus_forms.specs.declared.value.ValType.{ValType}
@@ -10,15 +10,15 @@ use Rattle.walrus_forms.proofs.EqLemmas.{same-kind-law}
 use Rattle.walrus_forms.specs.Same.{same_kind}
 use Rattle.walrus_function_types.specs.Growth.{Grows}
 use Rattle.walrus_function_types.proofs.GrowthLemmas.{lives_on}
-use Rattle.walrus_parsed_locals.specs.walrus_parsed_bodies.walrus_parsed_items.walrus_parse.walrus_file_bodies.walrus_items_into.walrus_module_env.walrus_handler_types.walrus_handler_laws.declared.handler.Handler.{Handler}
-use Rattle.walrus_parsed_locals.specs.walrus_parsed_bodies.walrus_parsed_items.walrus_parse.walrus_file_bodies.walrus_items_into.walrus_module_env.walrus_handler_types.Giving.{Finds, FindsIf, Gives, GivesAt, GivesType, block_results, caught}
+use Rattle.walrus_parsed_locals.specs.walrus_parsed_bodies.walrus_parsed_items.walrus_named_bodies.walrus_file_bodies.walrus_items_into.walrus_module_env.walrus_handler_types.walrus_handler_laws.declared.handler.Handler.{Handler}
+use Rattle.walrus_parsed_locals.specs.walrus_parsed_bodies.walrus_parsed_items.walrus_named_bodies.walrus_file_bodies.walrus_items_into.walrus_module_env.walrus_handler_types.Giving.{Finds, FindsIf, Gives, GivesAt, GivesType, block_results, caught}
 use Rattle.walrus_body_walks.specs.walrus_marks.walrus_instr.BlockTypes.{Makes, picked, short_form}
 use Rattle.walrus_body_walks.specs.walrus_marks.walrus_instr.declared.seq.InstrSeqType.{InstrSeqType}
 use Rattle.walrus_body_walks.specs.walrus_marks.walrus_instr.declared.seq.InstrSeqType.TheVariants.{Simple, MultiValue}
 use Rattle.walrus_body_walks.specs.walrus_marks.Named.{items_of}
 use Rattle.walrus_body_walks.specs.walrus_marks.walrus_walks.Events.{Event, val_names}
-use Rattle.walrus_parsed_locals.specs.walrus_parsed_bodies.walrus_parsed_items.walrus_parse.walrus_file_bodies.walrus_items_into.walrus_tables_into.walrus_sections.walrus_roots.Items.{item}
-use Rattle.walrus_parsed_locals.specs.walrus_parsed_bodies.walrus_parsed_items.walrus_parse.walrus_file_bodies.walrus_items_into.walrus_tables_into.walrus_sections.walrus_roots.declared.item.Item.{Item}
+use Rattle.walrus_parsed_locals.specs.walrus_parsed_bodies.walrus_parsed_items.walrus_named_bodies.walrus_file_bodies.walrus_items_into.walrus_tables_into.walrus_sections.walrus_roots.Items.{item}
+use Rattle.walrus_parsed_locals.specs.walrus_parsed_bodies.walrus_parsed_items.walrus_named_bodies.walrus_file_bodies.walrus_items_into.walrus_tables_into.walrus_sections.walrus_roots.declared.item.Item.{Item}
 use Rattle.walrus_types.proofs.LawLemmas.{latest-law}
 use Rattle.walrus_types.specs.Items.{Item as TypeItem}
 use Rattle.walrus_types.specs.Table.{Adds, Merges, Table, equal_type, found_type, type_at}

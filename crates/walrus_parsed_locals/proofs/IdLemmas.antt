@@ -7,7 +7,7 @@ use Rattle.std.proofs.lemmas.List.{map-append}
 use Rattle.walrus_parsed_bodies.specs.walrus_parsed_items.walrus_into_laws.walrus_meaning.walrus_local_function.walrus_body_locals.Locals.{ids_from, locals_from}
 use Rattle.walrus_parsed_bodies.specs.walrus_parsed_items.walrus_body_trees.walrus_body_nesting.wasm_body_grammar.wasm_grammar.walrus_forms.declared.value.ValType.{ValType}
 use Rattle.walrus_parsed_bodies.specs.walrus_parsed_items.walrus_into_laws.walrus_meaning.walrus_body_writer.walrus_pairing.walrus_items.declared.local.Local.{Local}
-use Rattle.walrus_parsed_bodies.specs.walrus_parsed_items.walrus_parse.walrus_item_names.Names.{bare_local}
+use Rattle.walrus_parsed_bodies.specs.walrus_parsed_items.walrus_named_bodies.walrus_item_names.Names.{bare_local}
 use Rattle.walrus_parsed_locals.proofs.KeyLemmas.{has}
 
 -- ---- ids

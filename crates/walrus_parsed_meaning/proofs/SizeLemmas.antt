@@ -2,23 +2,23 @@
 use Rattle.std.specs.Prelude.{ℕ, ◌^◌, ◌<◌, ◌≡◌, Bool, true, false, List, [], ◌∷◌, length, map, Option, Some, None, IfSome}
 use Rattle.std.specs.Option.{option_map}
 use Rattle.std.proofs.Common.{sym, subst, inl, inr, ◌∙◌}
-use Rattle.walrus_parsed_groups.specs.walrus_parsed_linked.walrus_parsed_items.walrus_parse.walrus_file_bodies.walrus_items_into.walrus_module_env.walrus_handler_types.walrus_body_steps.wasm_body_grammar.wasm_formats.Bytes.{either_type}
-use Rattle.walrus_parsed_groups.specs.walrus_parsed_linked.walrus_parsed_items.walrus_parse.walrus_file_bodies.walrus_items_into.walrus_module_env.walrus_handler_types.walrus_body_steps.wasm_body_grammar.wasm_formats.Joined.{built}
-use Rattle.walrus_parsed_groups.specs.walrus_parsed_linked.walrus_parsed_items.walrus_parse.walrus_file_bodies.walrus_items_into.walrus_module_env.walrus_handler_types.walrus_body_steps.wasm_body_grammar.wasm_formats.Parts.{nothing, some_once}
-use Rattle.walrus_parsed_groups.specs.walrus_parsed_linked.walrus_parsed_items.walrus_parse.walrus_file_bodies.walrus_items_into.walrus_module_env.walrus_handler_types.walrus_body_steps.wasm_body_grammar.wasm_formats.Led.{led}
-use Rattle.walrus_parsed_groups.specs.walrus_parsed_linked.walrus_parsed_items.walrus_parse.walrus_file_bodies.walrus_items_into.walrus_module_env.walrus_handler_types.walrus_body_steps.wasm_body_grammar.wasm_formats.Wholes.{u32}
-use Rattle.walrus_parsed_groups.specs.walrus_parsed_linked.walrus_parsed_items.walrus_parse.walrus_file_bodies.walrus_items_into.walrus_module_env.walrus_handler_types.walrus_body_steps.wasm_body_grammar.wasm_formats.wasm_features.declared.WasmFeatures.{WasmFeatures}
-use Rattle.walrus_parsed_groups.specs.walrus_parsed_linked.walrus_parsed_items.walrus_parse.walrus_file_bodies.walrus_items_into.walrus_module_env.walrus_handler_types.walrus_body_steps.wasm_body_grammar.wasm_grammar.Modules as grammar
-use Rattle.walrus_parsed_groups.specs.walrus_parsed_linked.walrus_parsed_items.walrus_parse.walrus_file_bodies.walrus_items_into.walrus_module_env.walrus_handler_types.walrus_body_steps.wasm_body_grammar.wasm_grammar.States.{State}
-use Rattle.walrus_parsed_groups.specs.walrus_parsed_linked.walrus_parsed_items.walrus_parse.walrus_file_bodies.walrus_items_into.walrus_module_env.walrus_handler_types.walrus_body_steps.wasm_body_grammar.wasm_grammar.Values.{Limits, has_maximum, is_wide, limits, memory_limits, size, table_limits, u64}
-use Rattle.walrus_parsed_groups.specs.walrus_parsed_linked.walrus_parsed_items.walrus_parse.walrus_file_bodies.walrus_items_into.wasm_module_rules.Keeps.{each_push}
-use Rattle.walrus_parsed_groups.specs.walrus_parsed_linked.walrus_parsed_items.walrus_parse.walrus_file_bodies.walrus_items_into.wasm_module_rules.Linked.{Each}
-use Rattle.walrus_parsed_groups.specs.walrus_parsed_linked.walrus_parsed_items.walrus_parse.walrus_file_bodies.walrus_items_into.wasm_module_rules.Reading.{entity_kind, kind_number}
-use Rattle.walrus_parsed_groups.specs.walrus_parsed_linked.walrus_parsed_items.walrus_parse.walrus_file_bodies.walrus_items_into.wasm_module_rules.wasm_modules.Modules.{Reads, module_of}
+use Rattle.walrus_parsed_groups.specs.walrus_parsed_linked.walrus_parsed_items.walrus_named_bodies.walrus_file_bodies.walrus_items_into.walrus_module_env.walrus_handler_types.walrus_body_steps.wasm_body_grammar.wasm_formats.Bytes.{either_type}
+use Rattle.walrus_parsed_groups.specs.walrus_parsed_linked.walrus_parsed_items.walrus_named_bodies.walrus_file_bodies.walrus_items_into.walrus_module_env.walrus_handler_types.walrus_body_steps.wasm_body_grammar.wasm_formats.Joined.{built}
+use Rattle.walrus_parsed_groups.specs.walrus_parsed_linked.walrus_parsed_items.walrus_named_bodies.walrus_file_bodies.walrus_items_into.walrus_module_env.walrus_handler_types.walrus_body_steps.wasm_body_grammar.wasm_formats.Parts.{nothing, some_once}
+use Rattle.walrus_parsed_groups.specs.walrus_parsed_linked.walrus_parsed_items.walrus_named_bodies.walrus_file_bodies.walrus_items_into.walrus_module_env.walrus_handler_types.walrus_body_steps.wasm_body_grammar.wasm_formats.Led.{led}
+use Rattle.walrus_parsed_groups.specs.walrus_parsed_linked.walrus_parsed_items.walrus_named_bodies.walrus_file_bodies.walrus_items_into.walrus_module_env.walrus_handler_types.walrus_body_steps.wasm_body_grammar.wasm_formats.Wholes.{u32}
+use Rattle.walrus_parsed_groups.specs.walrus_parsed_linked.walrus_parsed_items.walrus_named_bodies.walrus_file_bodies.walrus_items_into.walrus_module_env.walrus_handler_types.walrus_body_steps.wasm_body_grammar.wasm_formats.wasm_features.declared.WasmFeatures.{WasmFeatures}
+use Rattle.walrus_parsed_groups.specs.walrus_parsed_linked.walrus_parsed_items.walrus_named_bodies.walrus_file_bodies.walrus_items_into.walrus_module_env.walrus_handler_types.walrus_body_steps.wasm_body_grammar.wasm_grammar.Modules as grammar
+use Rattle.walrus_parsed_groups.specs.walrus_parsed_linked.walrus_parsed_items.walrus_named_bodies.walrus_file_bodies.walrus_items_into.walrus_module_env.walrus_handler_types.walrus_body_steps.wasm_body_grammar.wasm_grammar.States.{State}
+use Rattle.walrus_parsed_groups.specs.walrus_parsed_linked.walrus_parsed_items.walrus_named_bodies.walrus_file_bodies.walrus_items_into.walrus_module_env.walrus_handler_types.walrus_body_steps.wasm_body_grammar.wasm_grammar.Values.{Limits, has_maximum, is_wide, limits, memory_limits, size, table_limits, u64}
+use Rattle.walrus_parsed_groups.specs.walrus_parsed_linked.walrus_parsed_items.walrus_named_bodies.walrus_file_bodies.walrus_items_into.wasm_module_rules.Keeps.{each_push}
+use Rattle.walrus_parsed_groups.specs.walrus_parsed_linked.walrus_parsed_items.walrus_named_bodies.walrus_file_bodies.walrus_items_into.wasm_module_rules.Linked.{Each}
+use Rattle.walrus_parsed_groups.specs.walrus_parsed_linked.walrus_parsed_items.walrus_named_bodies.walrus_file_bodies.walrus_items_into.wasm_module_rules.Reading.{entity_kind, kind_number}
+use Rattle.walrus_parsed_groups.specs.walrus_parsed_linked.walrus_parsed_items.walrus_named_bodies.walrus_file_bodies.walrus_items_into.wasm_module_rules.wasm_modules.Modules.{Reads, module_of}
 use Rattle.walrus_parsed_groups.specs.walrus_parsed_linked.walrus_pairing.wasm_operators.wasm_reader.Spelled.{spelled_unsigned}
 use Rattle.walrus_parsed_groups.specs.walrus_parsed_linked.walrus_parsed_items.wasm_import_links.wasm_ruled_modules.Keeping.{EntriesKeep, file_kept}
 use Rattle.walrus_parsed_groups.specs.walrus_parsed_linked.walrus_parsed_items.wasm_import_links.wasm_ruled_modules.Named.{room_spells}
-use Rattle.walrus_parsed_groups.specs.walrus_parsed_linked.walrus_parsed_items.walrus_parse.walrus_file_bodies.walrus_items_into.wasm_sections.Entities.{Entity, FunctionOf, TableOf, MemoryOf, GlobalOf, TagOf, ImportEntry, MemoryType, TableEntry, TableType, add_entity, add_import, add_memory, add_table, entity, import_entry, import_of, initialised, memory_entry, memory_of, memory_once, table_apart, table_entry, table_of, table_once, table_some, table_type, table_wants, with_import}
+use Rattle.walrus_parsed_groups.specs.walrus_parsed_linked.walrus_parsed_items.walrus_named_bodies.walrus_file_bodies.walrus_items_into.wasm_sections.Entities.{Entity, FunctionOf, TableOf, MemoryOf, GlobalOf, TagOf, ImportEntry, MemoryType, TableEntry, TableType, add_entity, add_import, add_memory, add_table, entity, import_entry, import_of, initialised, memory_entry, memory_of, memory_once, table_apart, table_entry, table_of, table_once, table_some, table_type, table_wants, with_import}
 use Rattle.walrus_parsed_meaning.specs.Means.{AreSized, IsSmall}
 
 -- ---- limits

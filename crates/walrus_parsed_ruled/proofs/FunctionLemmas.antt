@@ -31,14 +31,14 @@ use Rattle.walrus_parsed_meaning.specs.walrus_parsed_linked.walrus_parsed_items.
 use Rattle.walrus_parsed_meaning.specs.walrus_parsed_linked.walrus_parsed_items.walrus_into_laws.walrus_meaning.walrus_linked.Linked.{IsLinked, IsWhole}
 use Rattle.walrus_parsed_meaning.specs.walrus_parsed_linked.walrus_parsed_items.walrus_into_laws.walrus_meaning.Bodies.{depth_of, local_ids, own_body}
 use Rattle.walrus_parsed_meaning.specs.walrus_parsed_linked.walrus_parsed_items.walrus_into_laws.walrus_meaning.Meaning.{own_function, own_origin, slots_of}
-use Rattle.walrus_parsed_meaning.specs.walrus_parsed_linked.walrus_parsed_items.walrus_parse.walrus_module.Parts.{Module}
-use Rattle.walrus_parsed_meaning.specs.walrus_parsed_linked.walrus_parsed_items.walrus_parse.walrus_module.walrus_module_items.declared.function.Function.{Function}
-use Rattle.walrus_parsed_meaning.specs.walrus_parsed_linked.walrus_parsed_items.walrus_parse.walrus_module.walrus_module_items.declared.function.FunctionKind.{FunctionKind}
-use Rattle.walrus_parsed_meaning.specs.walrus_parsed_linked.walrus_parsed_items.walrus_parse.walrus_module.walrus_module_items.declared.function.FunctionKind.TheVariants as kinds
+use Rattle.walrus_parsed_meaning.specs.walrus_parsed_linked.walrus_parsed_items.walrus_named_bodies.walrus_item_names.walrus_module.Parts.{Module}
+use Rattle.walrus_parsed_meaning.specs.walrus_parsed_linked.walrus_parsed_items.walrus_named_bodies.walrus_item_names.walrus_module.walrus_module_items.declared.function.Function.{Function}
+use Rattle.walrus_parsed_meaning.specs.walrus_parsed_linked.walrus_parsed_items.walrus_named_bodies.walrus_item_names.walrus_module.walrus_module_items.declared.function.FunctionKind.{FunctionKind}
+use Rattle.walrus_parsed_meaning.specs.walrus_parsed_linked.walrus_parsed_items.walrus_named_bodies.walrus_item_names.walrus_module.walrus_module_items.declared.function.FunctionKind.TheVariants as kinds
 use Rattle.walrus_parsed_meaning.specs.walrus_parsed_linked.walrus_parsed_bodies.Texts.{naming, text_of}
 use Rattle.walrus_parsed_meaning.specs.walrus_parsed_linked.walrus_parsed_locals.Locals.{kept_numbers, typed}
-use Rattle.walrus_parsed_meaning.specs.walrus_parsed_linked.walrus_parsed_items.walrus_parse.walrus_file_bodies.walrus_items_into.walrus_tables_into.walrus_sections_into.Becomes.{look_of}
-use Rattle.walrus_parsed_meaning.specs.walrus_parsed_linked.walrus_parsed_items.walrus_parse.walrus_module.walrus_tree.Trees.{AreDistinct}
+use Rattle.walrus_parsed_meaning.specs.walrus_parsed_linked.walrus_parsed_items.walrus_named_bodies.walrus_file_bodies.walrus_items_into.walrus_tables_into.walrus_sections_into.Becomes.{look_of}
+use Rattle.walrus_parsed_meaning.specs.walrus_parsed_linked.walrus_parsed_items.walrus_named_bodies.walrus_item_names.walrus_module.walrus_tree.Trees.{AreDistinct}
 use Rattle.walrus_parsed_meaning.specs.Meant.{body_meant, each_from, function_meant, origin_meant, place_of}
 use Rattle.walrus_parsed_meaning.specs.Means.{HasLocals}
 use Rattle.walrus_parsed_ruled.specs.Numbered.{numbered_body, numbered_function, numbered_origin}

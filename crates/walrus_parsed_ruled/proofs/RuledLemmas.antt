@@ -32,12 +32,12 @@ use Rattle.walrus_parsed_meaning.specs.walrus_parsed_linked.walrus_parsed_items.
 use Rattle.walrus_parsed_meaning.specs.walrus_parsed_linked.walrus_parsed_items.walrus_into_laws.Meaning.{type_id}
 use Rattle.walrus_parsed_meaning.specs.walrus_parsed_linked.walrus_parsed_items.walrus_into_laws.Renamed as into
 use Rattle.walrus_parsed_meaning.specs.walrus_parsed_linked.walrus_parsed_items.walrus_into_laws.walrus_meaning.Meaning.{has_kinds, own_element, own_global, own_segment, own_table, own_tag}
-use Rattle.walrus_parsed_meaning.specs.walrus_parsed_linked.walrus_parsed_items.walrus_parse.walrus_module.Parts.{parts}
-use Rattle.walrus_parsed_meaning.specs.walrus_parsed_linked.walrus_parsed_items.walrus_parse.walrus_module.declared.module.Module.{Module as Whole}
-use Rattle.walrus_parsed_meaning.specs.walrus_parsed_linked.walrus_parsed_items.walrus_parse.Parsed.{read_features}
+use Rattle.walrus_parsed_meaning.specs.walrus_parsed_linked.walrus_parsed_items.walrus_named_bodies.walrus_item_names.walrus_module.Parts.{parts}
+use Rattle.walrus_parsed_meaning.specs.walrus_parsed_linked.walrus_parsed_items.walrus_named_bodies.walrus_item_names.walrus_module.declared.module.Module.{Module as Whole}
+use Rattle.walrus_parsed_meaning.specs.walrus_parsed_linked.walrus_parsed_items.walrus_named_bodies.Parsed.{read_features}
 use Rattle.walrus_parsed_meaning.specs.walrus_parsed_groups.Added.{is_missing, kind_of, once}
 use Rattle.walrus_parsed_meaning.specs.walrus_parsed_groups.Files.{bodies_handle, sent}
-use Rattle.walrus_parsed_meaning.specs.walrus_parsed_linked.walrus_parsed_items.walrus_parse.walrus_file_bodies.walrus_items_into.walrus_tables_into.walrus_sections_into.Becomes.{look_of}
+use Rattle.walrus_parsed_meaning.specs.walrus_parsed_linked.walrus_parsed_items.walrus_named_bodies.walrus_file_bodies.walrus_items_into.walrus_tables_into.walrus_sections_into.Becomes.{look_of}
 use Rattle.walrus_parsed_meaning.specs.Meant.{module_meant, picks, place_of}
 use Rattle.walrus_parsed_meaning.specs.Means.{HasLocals, MeansFile, ReadModulesMeanFiles, bodies_of, handler_kinds, is_payload, section_if}
 use Rattle.walrus_parsed_ruled.specs.Numbered.{numbered}

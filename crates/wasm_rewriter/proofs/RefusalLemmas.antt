@@ -5,6 +5,7 @@ use Rattle.walrus_errors.specs.declared.error.ModuleError.TheVariants as errors
 use Rattle.walrus_config.specs.declared.config.ModuleConfig.{ModuleConfig}
 use Rattle.walrus_parse.specs.Parsed.{DoesRead, IsRead, read_features}
 use Rattle.walrus_parse.specs.Refusals.{IsRefusal, refusal}
+use Rattle.walrus_parse.specs.walrus_file_reader.Files.{read_has_header}
 use Rattle.wasm_formats.specs.Stops.{Trouble, Read}
 use Rattle.wasm_formats.specs.wasm_reader.declared.error.ErrorKind.{ErrorKind}
 use Rattle.wasm_formats.specs.wasm_reader.declared.error.ErrorKind.TheVariants as kinds
@@ -28,7 +29,7 @@ late_may (errors.OutputLimit limit) = tt
 late_may error = tt
 
 pub may_refuse : (o : Options) (input : List ℕ) (fault : Fault) → IsAccepted o input → MayBeRefused fault → IsRefused o input fault
-may_refuse o input faults.Memory reads may = unread o input errors.Memory (inl (refl, reads.1.0))
+may_refuse o input faults.Memory reads may = unread o input errors.Memory (inl (refl, reads.1.0, read_has_header _ _ _ reads.1.3))
 may_refuse o input (faults.OutputLimit limit) reads may = inr (record { reads = reads; limit = limit; fault_is = refl })
 may_refuse o input fault reads may = absurd may
 

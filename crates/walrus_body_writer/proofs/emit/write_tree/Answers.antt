@@ -8,6 +8,7 @@ use Rattle.walrus_body_writer.specs.Numbers.{look_of}
 use Rattle.walrus_body_writer.specs.Refusals.{LeavesOff}
 use Rattle.walrus_body_text.proofs.Steps.{passed, starts}
 use Rattle.walrus_body_writer.proofs.Steps.{refuses, writes_on}
+use Rattle.walrus_body_writer.proofs.Fronts.{first_itself, first_on}
 use Rattle.walrus_body_writer.proofs.Outs.{wrote_none}
 use Rattle.walrus_body_writer.proofs.Runs.{if_memory, open_goes}
 use Rattle.walrus_body_writer.proofs.Refused.{wants}
@@ -27,6 +28,7 @@ loop-top-init c =
         parts = sym (ap (left b []) c.new-todo.ensures);
         wrote = wrote_none (look_of c.args.numbers.now) b c.args.out.now;
       };
+      front = first_itself c.args.out.now;
     }
 
 pub loop-top-preserved : goal.loop-top-preserved
@@ -59,7 +61,8 @@ loop-top-preserved c =
           c.in-Ok.ensures.on plain all first ts
           (open_goes look b all first plain c.loop-top.todo ts top place d e c.loop-top.out c.in-Some.ensures.items is (place_on _ place _ some c.in_ok-place.ensures.depths) high (i.goes tree)) in
           let h = passed b plain (ts ++ Inside next ∷ []) ts (Inside next) e met new refl r.good (met_is _ met _ c.in-Some-3.is c.in_ok-met.ensures.advanced) in
-          writes_on look b all first r.front (left b [] (ts ++ Inside next ∷ [])) new c.write_plain.new.out c.write_met.new.out r.parts r.wrote met h (c.in-Ok-write_met.ensures c.advance.new.todo);
+          writes_on look b all first r.front (left b [] (ts ++ Inside next ∷ [])) new c.write_plain.new.out c.write_met.new.out r.parts r.wrote met h (c.in-Ok-write_met.ensures.written c.advance.new.todo);
+      front = first_on first c.write_plain.new.out c.write_met.new.out (first_on first c.loop-top.out c.write_plain.new.out i.front c.in-Ok.ensures.front) c.in-Ok-write_met.ensures.front;
     }
 
 pub loop-top-smaller : goal.loop-top-smaller
@@ -129,7 +132,7 @@ returns-in-Err-write_met-clause-left c = λ tree.
     (open_goes look b all first plain c.loop-top.todo ts c.in-Some.top place c.loop-top.depths e c.loop-top.out c.in-Some.ensures.items (place_is _ place _ some c.in_ok-place.ensures.place)
     (place_on _ place _ some c.in_ok-place.ensures.depths) (place_on _ place _ some c.in_ok-place.ensures.height) (c.loop-top.invariant.goes tree)) in
     let h = passed b plain (ts ++ Inside next ∷ []) ts (Inside next) e met new refl r.good (met_is _ met _ c.in-Some-3.is c.in_ok-met.ensures.advanced) in
-    refuses look b all first r.front (left b [] (ts ++ Inside next ∷ [])) new c.write_plain.new.out c.write_met.new.out r.parts r.wrote met c.in-Err-write_met.error h (c.in-Err-write_met.ensures c.advance.new.todo)
+    refuses look b all first r.front (left b [] (ts ++ Inside next ∷ [])) new c.write_plain.new.out c.write_met.new.out r.parts r.wrote met c.in-Err-write_met.error h (c.in-Err-write_met.ensures.written c.advance.new.todo)
 
 pub returns-in_err-met-clause-left : goal.returns-in_err-met-clause-left
 returns-in_err-met-clause-left c =
@@ -167,3 +170,20 @@ returns-in_default-3-clause-tree c =
     test_begins b entry c.loop-top.todo ts c.in-Some.top c.loop-top.depths c.in-Some.ensures.items c.loop-top.invariant.tested place e (place_is _ place _ some c.in_ok-place.ensures.place)
     (place_some _ place _ some c.in_ok-place.ensures.tested) (place_on _ place _ some c.in_ok-place.ensures.marks) (place_on _ place _ some c.in_ok-place.ensures.height) in
     test_strays b entry (ts ++ Inside place ∷ []) ts (Inside place) (Inside c.in-Ok.next) e refl begun.tested c.in-Ok.ensures.tested (met_none _ _ c.in_default-3.is c.in_ok-met.ensures.tested)
+
+pub returns-in_err-depths-clause-front : goal.returns-in_err-depths-clause-front
+returns-in_err-depths-clause-front c = first_itself c.args.out.now
+
+pub returns-in-Err-clause-front : goal.returns-in-Err-clause-front
+returns-in-Err-clause-front c = first_on c.args.out.now c.loop-top.out c.write_plain.new.out c.loop-top.invariant.front c.in-Err.ensures.front
+
+pub returns-in_err-met-clause-front : goal.returns-in_err-met-clause-front
+returns-in_err-met-clause-front c = first_on c.args.out.now c.loop-top.out c.write_plain.new.out c.loop-top.invariant.front c.in-Ok.ensures.front
+
+pub returns-in_default-3-clause-front : goal.returns-in_default-3-clause-front
+returns-in_default-3-clause-front c = first_on c.args.out.now c.loop-top.out c.write_plain.new.out c.loop-top.invariant.front c.in-Ok.ensures.front
+
+pub returns-in-Err-write_met-clause-front : goal.returns-in-Err-write_met-clause-front
+returns-in-Err-write_met-clause-front c =
+    first_on c.args.out.now c.write_plain.new.out c.write_met.new.out (first_on c.args.out.now c.loop-top.out c.write_plain.new.out c.loop-top.invariant.front c.in-Ok.ensures.front)
+    c.in-Err-write_met.ensures.front

@@ -4,6 +4,7 @@ use Rattle.walrus_body_text.specs.walrus_tree.Trees.{IsTree}
 use Rattle.walrus_body_text.specs.Walking.{state}
 use Rattle.walrus_body_writer.specs.Emitting.{Goes}
 use Rattle.walrus_body_writer.specs.Numbers.{look_of}
+use Rattle.walrus_body_writer.specs.Outputs.{StandsFirst}
 use Rattle.walrus_body_text.specs.Tested.{IsTested, turns, work}
 use Rattle.walrus_body_writer.proofs.emit.write_tree.Given as goal
 
@@ -11,6 +12,7 @@ abbrev pub invariant-loop-top : goal.invariant-loop-top
 invariant-loop-top l = record {
   tested : IsTested l.seqs l.fn.entry (state l.todo l.depths);
   goes : IsTree l.seqs l.fn.entry → Goes (look_of l.numbers) l.seqs (operators l.seqs l.fn.entry) l.fn.out (state l.todo l.depths) l.out;
+  front : StandsFirst l.fn.out l.out;
 }
 
 abbrev pub decreases-loop-top : goal.decreases-loop-top

@@ -3,7 +3,7 @@ use Rattle.std.proofs.lemmas.List.{get_or_default}
 use Rattle.walrus_section_frames.specs.walrus_known_sections.wasm_sections.wasm_grammar.States.{State}
 use Rattle.walrus_errors.specs.declared.error.ModuleError.{ModuleError}
 use Rattle.walrus_section_frames.specs.walrus_known_sections.State.{state_of}
-use Rattle.walrus_file_reader.specs.Files.{IsRefused}
+use Rattle.walrus_file_reader.specs.Files.{IsRefused, read_has_header}
 use Rattle.walrus_file_reader.proofs.FileLemmas.{begins, file_read, file_refused}
 use Rattle.walrus_file_reader.proofs.file.read_sections.Goals as goal
 
@@ -17,7 +17,15 @@ returns-in-Ok-clause-read c =
     let reader = c.new_features-reader.ensures in
     let at = begins c.args.features c.args.bytes.now c.new_features-reader.result reader.bytes reader.start reader.position reader.features in
     file_read c.args.features c.args.bytes.now c.new_features-reader.result (state_of c.new-sections.result) (state_of c.read_file.new.sections) _ at c.new-sections.ensures
-    (λ k d lt. let same = get_or_default c.args.bytes.now k d 0 lt in omega (arith, same, c.type_inv.bytes k)) c.in-Ok.ensures
+    (λ k d lt. let same = get_or_default c.args.bytes.now k d 0 lt in omega (arith, same, c.type_inv.bytes k)) c.in-Ok.ensures.file
+
+pub returns-in-Ok-clause-header : goal.returns-in-Ok-clause-header
+returns-in-Ok-clause-header c =
+    let reader = c.new_features-reader.ensures in
+    let at = begins c.args.features c.args.bytes.now c.new_features-reader.result reader.bytes reader.start reader.position reader.features in
+    read_has_header c.args.features c.args.bytes.now (state_of c.read_file.new.sections)
+    (file_read c.args.features c.args.bytes.now c.new_features-reader.result (state_of c.new-sections.result) (state_of c.read_file.new.sections) _ at c.new-sections.ensures
+    (λ k d lt. let same = get_or_default c.args.bytes.now k d 0 lt in omega (arith, same, c.type_inv.bytes k)) c.in-Ok.ensures.file)
 
 pub returns-clause-refused : goal.returns-clause-refused
 returns-clause-refused c =
@@ -25,4 +33,4 @@ returns-clause-refused c =
     let at = begins c.args.features c.args.bytes.now c.new_features-reader.result reader.bytes reader.start reader.position reader.features in
     subst (λ (e : ModuleError). IsRefused c.args.features c.args.bytes.now e) (sym c.from.ensures)
     (file_refused c.args.features c.args.bytes.now c.new_features-reader.result (state_of c.new-sections.result) _ c.in-Err.fault at c.new-sections.ensures
-    (λ k d lt. let same = get_or_default c.args.bytes.now k d 0 lt in omega (arith, same, c.type_inv.bytes k)) c.in-Err.ensures)
+    (λ k d lt. let same = get_or_default c.args.bytes.now k d 0 lt in omega (arith, same, c.type_inv.bytes k)) c.in-Err.ensures.header c.in-Err.ensures.file)

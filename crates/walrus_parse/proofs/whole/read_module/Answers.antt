@@ -17,7 +17,7 @@ use Rattle.walrus_named_bodies.specs.walrus_item_names.walrus_module.walrus_type
 use Rattle.walrus_named_bodies.specs.walrus_item_names.walrus_module.walrus_types.walrus_items.declared.local.Local.{Local}
 use Rattle.walrus_named_bodies.specs.walrus_file_bodies.walrus_items_into.walrus_payloads_into.Customs.{AreCustoms, customs_of}
 use Rattle.walrus_named_bodies.specs.Named.{all_names}
-use Rattle.walrus_parse.specs.Parsed.{ReadsAs, read_features}
+use Rattle.walrus_named_bodies.specs.Parsed.{ReadsAs, read_features}
 use Rattle.walrus_parse.specs.Refusals.{IsRefusal}
 use Rattle.walrus_parse.proofs.TypeLemmas.{all_live}
 use Rattle.walrus_named_bodies.proofs.CodeLemmas.{handed}

@@ -2,7 +2,7 @@ use Rattle.std.proofs.Common.{subst}
 use Rattle.walrus_config.specs.declared.config.ModuleConfig.{ModuleConfig as Flags}
 use Rattle.walrus_errors.specs.declared.error.ModuleError.{ModuleError}
 use Rattle.walrus_named_bodies.specs.walrus_item_names.walrus_module.walrus_body_writer.walrus_pairing.walrus_index_maps.Views.{ids}
-use Rattle.walrus_parse.specs.Parsed.{read_features}
+use Rattle.walrus_named_bodies.specs.Parsed.{read_features}
 use Rattle.walrus_parse.specs.Refusals.{IsRefusal}
 use Rattle.walrus_parse.proofs.ReadLemmas.{is_read}
 use Rattle.walrus_named_bodies.proofs.CodeLemmas.{handed}

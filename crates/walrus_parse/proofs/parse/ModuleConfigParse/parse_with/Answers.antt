@@ -5,7 +5,8 @@ use Rattle.walrus_errors.specs.declared.error.ModuleError.{ModuleError}
 use Rattle.walrus_errors.specs.declared.error.ModuleError.TheVariants.{Memory}
 use Rattle.walrus_named_bodies.specs.walrus_item_names.walrus_module.declared.module.Module.{Module as Whole}
 use Rattle.walrus_named_bodies.specs.walrus_item_names.walrus_module.walrus_body_writer.walrus_pairing.walrus_index_maps.Views.{ids}
-use Rattle.walrus_parse.specs.Parsed.{HandsOn, read_features}
+use Rattle.walrus_named_bodies.specs.Parsed.{HandsOn, read_features}
+use Rattle.walrus_file_reader.specs.Files.{read_has_header}
 use Rattle.walrus_parse.specs.Refusals.{IsRefusal}
 use Rattle.walrus_parse.proofs.ReadLemmas.{is_read, leaves_so}
 use Rattle.walrus_named_bodies.proofs.CodeLemmas.{handed}
@@ -21,7 +22,7 @@ returns-in_err-found-clause-refused g c =
 pub returns-in_err-send_locations-clause-refused : goal.returns-in_err-send_locations-clause-refused
 returns-in_err-send_locations-clause-refused g c =
     handed (λ (error : ModuleError). IsRefusal (read_features c.args.self.now) c.args.wasm.now error ⊎ ((m : Whole g.row.B.Denot) × HandsOn {B = g.row.B.Denot} {G = g.row.G.Denot} (goal.G-step g) c.args.on_instr_loc {F = g.row.F.Denot} g.F.FnOnce c.args.on_parse c.args.self.now c.args.wasm.now (Err error) m))
-    Memory c.from_residual-in_err-send_locations.result c.from_residual-in_err-send_locations.ensures (inl (inl (refl, c.in_ok-found.ensures.read.reads.short)))
+    Memory c.from_residual-in_err-send_locations.result c.from_residual-in_err-send_locations.ensures (inl (inl (refl, c.in_ok-found.ensures.read.reads.short, read_has_header _ _ _ c.in_ok-found.ensures.read.reads.sections)))
 
 pub returns-in-Err-clause-refused : goal.returns-in-Err-clause-refused
 returns-in-Err-clause-refused g c =

@@ -1,0 +1,15 @@
+pub mod Bodies
+pub mod Canonical
+pub mod CanonicalReads
+pub mod Dense
+pub mod Due
+pub mod Entries
+pub mod EntriesFormed
+pub mod Fits
+pub mod Formed
+pub mod Items
+pub mod Ordered
+pub mod Places
+pub mod Read
+pub mod Sizes
+pub mod Spelled

@@ -1,0 +1,11 @@
+pub mod Agree
+pub mod Closed
+pub mod Emitted
+pub mod Handlers
+pub mod Kept
+pub mod Open
+pub mod Order
+pub mod Part
+pub mod Seen
+pub mod Stands
+pub mod Written

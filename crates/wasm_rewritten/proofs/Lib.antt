@@ -1,0 +1,14 @@
+mod Calls
+mod Dense
+mod Listed
+mod LocalsNamed
+mod Named
+mod Opened
+mod Orderly
+mod Picks
+mod Rewritten
+mod Ruled
+mod Run
+mod Stood
+mod There
+mod Typed

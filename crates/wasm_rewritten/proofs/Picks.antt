@@ -1,0 +1,128 @@
+-- Picks under a renaming that sees types by what they stand for.
+use Rattle.std.proofs.Common.{ℕ, suc, ◌≡◌, ◌+◌, Bool, true, false, List, [], ◌∷◌, map, refl, sym, ap, ◌∙◌, arith, if◌then◌else◌, ◌&&◌}
+use Rattle.std.proofs.lemmas.Bool.{and_parts}
+use Rattle.std.specs.Prelude.{Option, Some, None, unwrap_or, slice_get}
+use Rattle.std.specs.Option.{option_map}
+use Rattle.walrus_forms.specs.declared.value.HeapType.{HeapType}
+use Rattle.walrus_forms.specs.declared.value.HeapType.TheVariants.{Abstract, Concrete, Exact}
+use Rattle.walrus_forms.specs.declared.value.ValType.{ValType}
+use Rattle.walrus_forms.specs.declared.value.ValType.TheVariants.{I32, I64, F32, F64, V128, Ref}
+use Rattle.walrus_forms.specs.Forms.{Form, FunctionForm, StructForm, ArrayForm, params_of, results_of}
+use Rattle.walrus_forms.specs.Kinds.{Kind, function_kind}
+use Rattle.walrus_forms.specs.Renaming.{renamed_value, renamed_form, renamed_kind}
+use Rattle.walrus_forms.specs.Same.{SameKindIsEquality}
+use Rattle.wasm_ref_types.specs.declared.heap.HeapType.TheVariants as read_heaps
+use Rattle.wasm_ref_types.specs.declared.index.UnpackedIndex.TheVariants.{Module}
+use Rattle.wasm_ref_types.specs.declared.value.ValType.{ValType as ReadValue}
+use Rattle.wasm_ref_types.specs.declared.value.ValType.TheVariants as read_values
+use Rattle.wasm_ref_types.specs.Reference.{reference}
+use Rattle.wasm_operators.specs.declared.block_type.BlockType.{BlockType}
+use Rattle.wasm_operators.specs.declared.block_type.BlockType.TheVariants as blocks
+use Rattle.wasm_operators.specs.Items.{Types}
+use Rattle.wasm_operators.specs.Names as names
+use Rattle.wasm_operators.specs.Names.{Renaming}
+use Rattle.wasm_grammar.specs.States.{types_of}
+use Rattle.wasm_grammar.specs.TypeWords.{value_from}
+use Rattle.wasm_body_grammar.specs.Rules.{Around, serves, leads, latest_from, found_in, pick}
+use Rattle.wasm_run_laws.specs.wasm_runs.Programs.{Signature}
+use Rattle.wasm_run_laws.specs.wasm_runs.Renamed.{renamed_signature}
+use Rattle.wasm_run_laws.specs.wasm_runs.Modules.{kind_signature, signature_in}
+use Rattle.wasm_run_names.specs.Picks.{form_pick, kind_pick}
+use Rattle.wasm_rewritten.specs.Runs.{PicksKeepThrough}
+
+-- ---- the latest type that passes a test passes it
+
+latest_has : (test : ℕ → Kind → Bool) (whole : List Kind) (P : Option ℕ → Type 0) → ((j : ℕ) (kind : Kind) → slice_get whole j ≡ Some kind → test j kind ≡ true → P (Some j))
+    → (rest : List Kind) (n : ℕ) (found : Option ℕ) → ((k : ℕ) → slice_get rest k ≡ slice_get whole (k + n)) → P found → P (latest_from test n found rest)
+latest_has test whole P h [] n found same p = p
+latest_has test whole P h (kind ∷ rest) n found same p =
+    latest_has test whole P h rest (n + 1) (if test n kind then Some n else found)
+    (λ k. same (suc k) ∙ ap (slice_get whole) (let e : suc k + n ≡ k + (n + 1) = omega arith in e)) (either (test n kind) refl)
+  where
+    either : (b : Bool) → test n kind ≡ b → P (if b then Some n else found)
+    either true e = h n kind (sym (same 0 ∙ ap (slice_get whole) (let e : 0 + n ≡ n = omega arith in e))) e
+    either false e = p
+
+params_renamed : (r : ℕ → ℕ) (form : Form) → params_of (renamed_form r form) ≡ map (renamed_value r) (params_of form)
+params_renamed r (FunctionForm params results) = refl
+params_renamed r (StructForm fields) = refl
+params_renamed r (ArrayForm field) = refl
+
+results_renamed : (r : ℕ → ℕ) (form : Form) → results_of (renamed_form r form) ≡ map (renamed_value r) (results_of form)
+results_renamed r (FunctionForm params results) = refl
+results_renamed r (StructForm fields) = refl
+results_renamed r (ArrayForm field) = refl
+
+-- ---- renaming by what types stand for, and then on, is to rename
+
+module _ (same : ℕ → ℕ) (r : Renaming) (q : ℕ → ℕ) (through : (n : ℕ) → r Types n ≡ q (same n)) where
+  abbrev on : Renaming
+  on space n = q n
+
+  value_through : (v : ValType) → names.renamed_value r (value_from v) ≡ names.renamed_value on (value_from (renamed_value same v))
+  value_through I32 = refl
+  value_through I64 = refl
+  value_through F32 = refl
+  value_through F64 = refl
+  value_through V128 = refl
+  value_through (Ref ty) = go ty.nullable ty.heap_type
+    where
+      go : (nullable : Bool) (heap : HeapType) → names.renamed_value r (value_from (Ref (record { nullable = nullable; heap_type = heap })))
+          ≡ names.renamed_value on (value_from (renamed_value same (Ref (record { nullable = nullable; heap_type = heap }))))
+      go nullable (Abstract ty) = refl
+      go nullable (Concrete n) = ap (λ (k : ℕ). read_values.Ref (reference nullable (read_heaps.Concrete (Module k)))) (through n)
+      go nullable (Exact n) = ap (λ (k : ℕ). read_values.Ref (reference nullable (read_heaps.Exact (Module k)))) (through n)
+
+  values_through : (vs : List ValType) → map (names.renamed_value r) (map value_from vs) ≡ map (λ v. names.renamed_value on (value_from v)) (map (renamed_value same) vs)
+  values_through [] = refl
+  values_through (v ∷ vs) =
+      ap (λ (x : ReadValue). x ∷ map (names.renamed_value r) (map value_from vs)) (value_through v)
+      ∙ ap (λ (xs : List ReadValue). names.renamed_value on (value_from (renamed_value same v)) ∷ xs) (values_through vs)
+
+  values_same : (vs ws : List ValType) → map (renamed_value same) vs ≡ map (renamed_value same) ws → map (names.renamed_value r) (map value_from vs) ≡ map (names.renamed_value r) (map value_from ws)
+  values_same vs ws e = values_through vs ∙ ap (map (λ v. names.renamed_value on (value_from v))) e ∙ sym (values_through ws)
+
+  -- a type that serves has the parameters and results, renamed
+  served : SameKindIsEquality → (kind : Kind) (params results : List ValType) → serves same params results kind ≡ true
+      → renamed_signature r (kind_signature (Some kind)) ≡ renamed_signature r (record { params = map value_from params; results = map value_from results })
+  served is kind params results h =
+      let e : renamed_kind same kind ≡ renamed_kind same (function_kind params results) = (is (renamed_kind same kind) (renamed_kind same (function_kind params results))).0 h in
+      let ps : map (renamed_value same) (params_of kind.form) ≡ map (renamed_value same) params = sym (params_renamed same kind.form) ∙ ap (λ (k : Kind). params_of k.form) e in
+      let rs : map (renamed_value same) (results_of kind.form) ≡ map (renamed_value same) results = sym (results_renamed same kind.form) ∙ ap (λ (k : Kind). results_of k.form) e in
+      ap (λ (xs : List ReadValue). (let s : Signature = record { params = xs; results = map (names.renamed_value r) (map value_from (results_of kind.form)) } in s)) (values_same (params_of kind.form) params ps)
+      ∙ ap (λ (xs : List ReadValue). (let s : Signature = record { params = map (names.renamed_value r) (map value_from params); results = xs } in s)) (values_same (results_of kind.form) results rs)
+
+module _ (is : SameKindIsEquality) (a : Around) (r : Renaming) (q : ℕ → ℕ) (through : (n : ℕ) → r Types n ≡ q (a.same n)) where
+  -- a block type of these parameters and results, and what is found for them
+  abbrev Keeps : BlockType → List ValType → List ValType → Option BlockType → Type 0
+  Keeps ty params results found = renamed_signature r (signature_in a.filled (unwrap_or found ty)) ≡ renamed_signature r (record { params = map value_from params; results = map value_from results })
+
+  found_keeps : (ty : BlockType) (params results : List ValType) → Keeps ty params results None → Keeps ty params results (option_map blocks.Type (found_in a.same params results (types_of a.filled)))
+  found_keeps ty params results h =
+      latest_has (λ n kind. leads a.same n && serves a.same params results kind) (types_of a.filled) (λ o. Keeps ty params results (option_map blocks.Type o))
+      (λ j kind at passes. ap (λ (o : Option Kind). renamed_signature r (kind_signature o)) at ∙ served a.same r q through is kind params results (and_parts (leads a.same j) (serves a.same params results kind) passes).1) (types_of a.filled) 0 None
+      (λ k. ap (slice_get (types_of a.filled)) (let e : k ≡ k + 0 = omega arith in e)) h
+
+  pick_keeps : (ty : BlockType) (params results : List ValType) → Keeps ty params results None → Keeps ty params results (pick a params results)
+  pick_keeps ty [] [] h = refl
+  pick_keeps ty [] (x ∷ []) h = refl
+  pick_keeps ty [] (x ∷ (y ∷ zs)) h = found_keeps ty [] (x ∷ (y ∷ zs)) h
+  pick_keeps ty (x ∷ xs) results h = found_keeps ty (x ∷ xs) results h
+
+  form_keeps : (n : ℕ) (kind : Kind) (form : Form) → kind.form ≡ form → slice_get (types_of a.filled) n ≡ Some kind
+      → renamed_signature r (signature_in a.filled (form_pick a (blocks.Type n) form)) ≡ renamed_signature r (kind_signature (Some kind))
+  form_keeps n kind (FunctionForm params results) e at =
+      let own : renamed_signature r (kind_signature (Some kind)) ≡ renamed_signature r (record { params = map value_from params; results = map value_from results }) =
+      ap (λ (f : Form). renamed_signature r (record { params = map value_from (params_of f); results = map value_from (results_of f) })) e in
+      pick_keeps (blocks.Type n) params results (ap (λ (o : Option Kind). renamed_signature r (kind_signature o)) at ∙ own) ∙ sym own
+  form_keeps n kind (StructForm fields) e at = ap (λ (o : Option Kind). renamed_signature r (kind_signature o)) at
+  form_keeps n kind (ArrayForm field) e at = ap (λ (o : Option Kind). renamed_signature r (kind_signature o)) at
+
+  kind_keeps : (n : ℕ) (o : Option Kind) → slice_get (types_of a.filled) n ≡ o → renamed_signature r (signature_in a.filled (kind_pick a (blocks.Type n) o)) ≡ renamed_signature r (kind_signature o)
+  kind_keeps n None at = ap (λ (o : Option Kind). renamed_signature r (kind_signature o)) at
+  kind_keeps n (Some kind) at = form_keeps n kind kind.form refl at
+
+pub picks_keep_through : SameKindIsEquality → PicksKeepThrough
+picks_keep_through is a r q through blocks.Empty = refl
+picks_keep_through is a r q through (blocks.Value ty) = refl
+picks_keep_through is a r q through (blocks.Type n) = kind_keeps is a r q through n (slice_get (types_of a.filled) n) refl

@@ -1,0 +1,6 @@
+pub mod Dense
+pub mod Orderly
+pub mod Places
+pub mod Rewritten
+pub mod Ruled
+pub mod Runs
