@@ -15,7 +15,7 @@ from sources import ROOT, Crates, head, read, root_of
 
 FILE = "docs/ARCHITECTURE.md"
 MARKS = "<!-- crates: what bench/map.py makes -->", "<!-- crates: the end -->"
-TESTS = re.compile(r"_tests$|^tests$|^rows$|_rows$|^examples?(_|$)")
+TESTS = re.compile(r"_tests$|^test_words$|^tests$|^rows$|_rows$|^examples?(_|$)")
 TITLES = {
     "standard": "Definitions and laws of the standard, without code",
     "laws": "Laws of the library, without code",

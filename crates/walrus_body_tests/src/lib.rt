@@ -1,4 +1,4 @@
-//! Tests of bodies that are read, in a module of their own, and written again, and of operators, each call that takes memory with ample memory.
+//! Tests of bodies that are read, in a module of their own, and written again, of frames, and of operators, each call that takes memory with ample memory.
 #![tactic(auto)]
 
 #[cfg(test)]
@@ -7,6 +7,8 @@ mod again;
 mod bench;
 #[cfg(test)]
 mod forms;
+#[cfg(test)]
+mod frames;
 #[cfg(test)]
 mod handlers;
 #[cfg(test)]

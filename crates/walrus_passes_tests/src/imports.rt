@@ -98,6 +98,7 @@ pub(crate) fn are_all_live(module: &Module) -> bool {
 /// Whether those alone live that are used.
 pub(crate) fn are_used_live(module: &Module) -> bool {
     has(module, [1, 2, 1, 1, 1, 0, 1, 1, 4])
+        && module.tables.main_function_table() == Ok(Some(TableId::from_index(0)))
 }
 
 // A second gc deletes nothing.

@@ -1,7 +1,7 @@
 //! Functions that are put in the place of others.
 
 use std::alloc::{AllocError, Global};
-use walrus_arena::FunctionId;
+use walrus_arena::{FunctionId, GlobalId};
 use walrus_builder::FunctionBuilder;
 use walrus_errors::ModuleError;
 use walrus_module::Module;
@@ -54,7 +54,7 @@ fn has_length(module: &Module, function: FunctionId, length: usize) -> bool {
     }
 }
 
-// Adds a function that is exported twice.
+// Adds a function that is exported twice, and an export of a global.
 fn add_exports(alloc: Global, module: &mut Module) -> Result<(), AllocError> {
     let mut builder = FunctionBuilder::new(alloc, &mut module.types, &[], &[])?;
     builder.func_body().call(old())?;
@@ -62,6 +62,7 @@ fn add_exports(alloc: Global, module: &mut Module) -> Result<(), AllocError> {
     let function = module.funcs.add_local(function)?;
     module.exports.add("dummy", function)?;
     module.exports.add("other", function)?;
+    module.exports.add("global", GlobalId::from_index(3))?;
     Ok(())
 }
 
@@ -74,6 +75,14 @@ pub(crate) fn exports_are_replaced(alloc: Global, module: &mut Module) -> Result
             && has_length(module, FunctionId::from_index(1), 2)
             && has_length(module, old(), 1)
             && module.exports.get_exported_func(old()).is_none()
+            && module
+                .exports
+                .get_exported_global(GlobalId::from_index(3))
+                .is_some()
+            && module
+                .exports
+                .get_exported_global(GlobalId::from_index(4))
+                .is_none()
             && replace_exported(module, old()) == 100
             && replace_imported(module, old()) == 100,
     )

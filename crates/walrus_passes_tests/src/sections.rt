@@ -116,7 +116,7 @@ fn sections_and_roots(rt: HostRuntime) {
     assert!(rt; have_roots(&mut roots) == Ok(true));
 }
 
-// Whether a language, a kit and a tool are told, the last version of each.
+// Whether a language, a kit and a tool are told, the last version of each, and a copy stands by itself.
 fn are_told(producers: &mut ModuleProducers) -> Result<bool, AllocError> {
     producers.add_language("Rust", "1.0")?;
     producers.add_language("Rust", "1.1")?;
