@@ -1,0 +1,255 @@
+-- Files and what is written of them, computed from the definitions by a plan for each.
+use Rattle.std.specs.Prelude.{ℕ, suc, ◌≡◌, ◌==◌, ◌++◌, true, false, not, List, [], ◌∷◌, filter, map, Option, Some, None, slice_index_or, Result, Ok, Err, if◌then◌else◌}
+use Rattle.walrus_forms.specs.Kinds.{function_kind}
+use Rattle.walrus_forms.specs.Records.{TypeGroup}
+use Rattle.walrus_forms.specs.declared.value.ValType.{ValType}
+use Rattle.walrus_forms.specs.declared.value.ValType.TheVariants.{I32}
+use Rattle.wasm_features.specs.declared.WasmFeatures.{WasmFeatures}
+use Rattle.wasm_features.specs.Features.{LegacyExceptions, WideArithmetic, features_of}
+use Rattle.wasm_features.specs.Sets.{default_names}
+use Rattle.wasm_formats.specs.Stops.{Stop}
+use Rattle.wasm_operators.specs.Items.{Space, Types, Functions, Tags, Locals, Labels}
+use Rattle.wasm_operators.specs.Names.{Renaming}
+use Rattle.wasm_grammar.specs.Modules.{Origin, Imported, Own, Placed, Body, Function, Module}
+use Rattle.wasm_modules.specs.Modules.{module_at}
+use Rattle.wasm_merged_modules.specs.Merged.{merged_module}
+use Rattle.wasm_part.specs.Part.{Plan, part}
+use Rattle.wasm_part.specs.Handlers.{handler_groups}
+use Rattle.wasm_canonical.specs.Canonical.{canonical_bytes}
+
+abbrev pub usual : WasmFeatures
+usual = features_of (LegacyExceptions ∷ WideArithmetic ∷ default_names)
+
+abbrev pub of_function : List ValType → List ValType → TypeGroup
+of_function params results = record { marked = false; kinds = function_kind params results ∷ [] }
+
+abbrev pub plain : TypeGroup
+plain = of_function [] []
+
+-- ---- a plan by its lists: the new number of an item is its place
+
+abbrev pub place_in : List ℕ → ℕ → ℕ
+place_in [] n = 0
+place_in (m ∷ ms) n = if m == n then 0 else suc (place_in ms n)
+
+abbrev pub by_place : (Space → List ℕ) → Renaming
+by_place listed Locals n = n
+by_place listed Labels n = n
+by_place listed space n = place_in (listed space) n
+
+abbrev pub planned : List TypeGroup → (Space → List ℕ) → List ℕ → List ℕ → List (List ℕ) → Plan
+planned groups listed imports exports declared =
+    record { renames = by_place listed; brings = place_in imports; groups = groups; listed = listed; imports = imports; exports = exports; declared = declared }
+
+-- ---- what is written
+
+-- what stands for no place
+abbrev pub nowhere : ℕ
+nowhere = 4294967295
+
+abbrev pub place_or : Option ℕ → ℕ
+place_or None = nowhere
+place_or (Some n) = n
+
+-- the file's module, its bodies in normal form and its types merged, with those of its handlers behind them
+abbrev pub meant : Module → Module
+meant file = merged_module place_or usual true (handler_groups file) file
+
+abbrev pub written : Plan → List ℕ → Result (List ℕ) Stop
+written p bytes = by (module_at usual bytes)
+  where
+    by : Result Module Stop → Result (List ℕ) Stop
+    by (Ok file) = Ok (canonical_bytes usual (part p (meant file)))
+    by (Err s) = Err s
+
+-- ---- pairs of places, function by function, operator by operator
+
+abbrev pub places_of : Origin Body → List ℕ
+places_of (Imported n) = []
+places_of (Own x) = map (λ (o : Placed). o.place) x.operators
+
+abbrev pub slot_places : Option Function → List ℕ
+slot_places None = []
+slot_places (Some f) = places_of f.origin
+
+abbrev pub side_by_side : List ℕ → List ℕ → List (ℕ × ℕ)
+side_by_side (m ∷ ms) (n ∷ ns) = (m, n) ∷ side_by_side ms ns
+side_by_side _ _ = []
+
+abbrev pub pairs_of : Module → Module → List ℕ → ℕ → List (ℕ × ℕ)
+pairs_of normal n [] i = []
+pairs_of normal n (f ∷ fs) i =
+    filter (λ (q : ℕ × ℕ). not (q.0 == nowhere)) (side_by_side (slot_places (slice_index_or normal.functions f None)) (slot_places (slice_index_or n.functions i None))) ++ pairs_of normal n fs (suc i)
+
+abbrev pub paired : Plan → List ℕ → List ℕ → List (ℕ × ℕ)
+paired p bytes out = by (module_at usual bytes) (module_at usual out)
+  where
+    by : Result Module Stop → Result Module Stop → List (ℕ × ℕ)
+    by (Ok file) (Ok n) = pairs_of (meant file) n (p.listed Functions) 0
+    by _ _ = []
+
+-- a function that is reached from no root goes
+abbrev pub unused_function_listed : Space → List ℕ
+unused_function_listed Types = 0 ∷ []
+unused_function_listed Functions = 1 ∷ []
+unused_function_listed _ = []
+
+abbrev pub unused_function_plan : Plan
+unused_function_plan = planned (plain ∷ []) unused_function_listed ([]) (0 ∷ []) ([])
+
+abbrev pub unused_function : List ℕ
+unused_function = 0x00 ∷ 0x61 ∷ 0x73 ∷ 0x6d ∷ 0x01 ∷ 0x00 ∷ 0x00 ∷ 0x00 ∷ 0x01 ∷ 0x04 ∷ 0x01 ∷ 0x60 ∷ 0x00 ∷ 0x00 ∷ 0x03 ∷ 0x03 ∷ 0x02 ∷ 0x00 ∷ 0x00 ∷ 0x07 ∷ 0x05 ∷ 0x01 ∷ 0x01 ∷ 0x66 ∷ 0x00 ∷ 0x01 ∷ 0x0a ∷ 0x08 ∷ 0x02 ∷ 0x03 ∷ 0x00 ∷ 0x0f ∷ 0x0b ∷ 0x02 ∷ 0x00 ∷ 0x0b ∷ []
+
+abbrev pub unused_function_out : List ℕ
+unused_function_out = 0x00 ∷ 0x61 ∷ 0x73 ∷ 0x6d ∷ 0x01 ∷ 0x00 ∷ 0x00 ∷ 0x00 ∷ 0x01 ∷ 0x04 ∷ 0x01 ∷ 0x60 ∷ 0x00 ∷ 0x00 ∷ 0x03 ∷ 0x02 ∷ 0x01 ∷ 0x00 ∷ 0x07 ∷ 0x05 ∷ 0x01 ∷ 0x01 ∷ 0x66 ∷ 0x00 ∷ 0x00 ∷ 0x0a ∷ 0x04 ∷ 0x01 ∷ 0x02 ∷ 0x00 ∷ 0x0b ∷ []
+
+-- the larger function is written first
+abbrev pub larger_first_listed : Space → List ℕ
+larger_first_listed Types = 0 ∷ []
+larger_first_listed Functions = 1 ∷ 0 ∷ []
+larger_first_listed _ = []
+
+abbrev pub larger_first_plan : Plan
+larger_first_plan = planned (plain ∷ []) larger_first_listed ([]) (0 ∷ []) ([])
+
+abbrev pub larger_first : List ℕ
+larger_first = 0x00 ∷ 0x61 ∷ 0x73 ∷ 0x6d ∷ 0x01 ∷ 0x00 ∷ 0x00 ∷ 0x00 ∷ 0x01 ∷ 0x04 ∷ 0x01 ∷ 0x60 ∷ 0x00 ∷ 0x00 ∷ 0x03 ∷ 0x03 ∷ 0x02 ∷ 0x00 ∷ 0x00 ∷ 0x07 ∷ 0x05 ∷ 0x01 ∷ 0x01 ∷ 0x66 ∷ 0x00 ∷ 0x00 ∷ 0x0a ∷ 0x0c ∷ 0x02 ∷ 0x04 ∷ 0x00 ∷ 0x10 ∷ 0x01 ∷ 0x0b ∷ 0x05 ∷ 0x00 ∷ 0x41 ∷ 0x07 ∷ 0x1a ∷ 0x0b ∷ []
+
+abbrev pub larger_first_out : List ℕ
+larger_first_out = 0x00 ∷ 0x61 ∷ 0x73 ∷ 0x6d ∷ 0x01 ∷ 0x00 ∷ 0x00 ∷ 0x00 ∷ 0x01 ∷ 0x04 ∷ 0x01 ∷ 0x60 ∷ 0x00 ∷ 0x00 ∷ 0x03 ∷ 0x03 ∷ 0x02 ∷ 0x00 ∷ 0x00 ∷ 0x07 ∷ 0x05 ∷ 0x01 ∷ 0x01 ∷ 0x66 ∷ 0x00 ∷ 0x01 ∷ 0x0a ∷ 0x0c ∷ 0x02 ∷ 0x05 ∷ 0x00 ∷ 0x41 ∷ 0x07 ∷ 0x1a ∷ 0x0b ∷ 0x04 ∷ 0x00 ∷ 0x10 ∷ 0x00 ∷ 0x0b ∷ []
+
+-- a type that equals an earlier one stands for it
+abbrev pub merged_types_listed : Space → List ℕ
+merged_types_listed Types = 0 ∷ []
+merged_types_listed Functions = 0 ∷ []
+merged_types_listed _ = []
+
+abbrev pub merged_types_plan : Plan
+merged_types_plan = planned (plain ∷ []) merged_types_listed ([]) (0 ∷ []) ([])
+
+abbrev pub merged_types : List ℕ
+merged_types = 0x00 ∷ 0x61 ∷ 0x73 ∷ 0x6d ∷ 0x01 ∷ 0x00 ∷ 0x00 ∷ 0x00 ∷ 0x01 ∷ 0x07 ∷ 0x02 ∷ 0x60 ∷ 0x00 ∷ 0x00 ∷ 0x60 ∷ 0x00 ∷ 0x00 ∷ 0x03 ∷ 0x02 ∷ 0x01 ∷ 0x01 ∷ 0x07 ∷ 0x05 ∷ 0x01 ∷ 0x01 ∷ 0x66 ∷ 0x00 ∷ 0x00 ∷ 0x0a ∷ 0x04 ∷ 0x01 ∷ 0x02 ∷ 0x00 ∷ 0x0b ∷ []
+
+abbrev pub merged_types_out : List ℕ
+merged_types_out = 0x00 ∷ 0x61 ∷ 0x73 ∷ 0x6d ∷ 0x01 ∷ 0x00 ∷ 0x00 ∷ 0x00 ∷ 0x01 ∷ 0x04 ∷ 0x01 ∷ 0x60 ∷ 0x00 ∷ 0x00 ∷ 0x03 ∷ 0x02 ∷ 0x01 ∷ 0x00 ∷ 0x07 ∷ 0x05 ∷ 0x01 ∷ 0x01 ∷ 0x66 ∷ 0x00 ∷ 0x00 ∷ 0x0a ∷ 0x04 ∷ 0x01 ∷ 0x02 ∷ 0x00 ∷ 0x0b ∷ []
+
+-- also where that is a member of a group that is written as one
+abbrev pub marked_group_listed : Space → List ℕ
+marked_group_listed Types = 0 ∷ []
+marked_group_listed Functions = 0 ∷ []
+marked_group_listed _ = []
+
+abbrev pub marked_group_plan : Plan
+marked_group_plan = planned ((record { marked = true; kinds = function_kind [] [] ∷ [] }) ∷ []) marked_group_listed ([]) (0 ∷ []) ([])
+
+abbrev pub marked_group : List ℕ
+marked_group = 0x00 ∷ 0x61 ∷ 0x73 ∷ 0x6d ∷ 0x01 ∷ 0x00 ∷ 0x00 ∷ 0x00 ∷ 0x01 ∷ 0x09 ∷ 0x02 ∷ 0x4e ∷ 0x01 ∷ 0x60 ∷ 0x00 ∷ 0x00 ∷ 0x60 ∷ 0x00 ∷ 0x00 ∷ 0x03 ∷ 0x02 ∷ 0x01 ∷ 0x01 ∷ 0x07 ∷ 0x05 ∷ 0x01 ∷ 0x01 ∷ 0x66 ∷ 0x00 ∷ 0x00 ∷ 0x0a ∷ 0x04 ∷ 0x01 ∷ 0x02 ∷ 0x00 ∷ 0x0b ∷ []
+
+abbrev pub marked_group_out : List ℕ
+marked_group_out = 0x00 ∷ 0x61 ∷ 0x73 ∷ 0x6d ∷ 0x01 ∷ 0x00 ∷ 0x00 ∷ 0x00 ∷ 0x01 ∷ 0x06 ∷ 0x01 ∷ 0x4e ∷ 0x01 ∷ 0x60 ∷ 0x00 ∷ 0x00 ∷ 0x03 ∷ 0x02 ∷ 0x01 ∷ 0x00 ∷ 0x07 ∷ 0x05 ∷ 0x01 ∷ 0x01 ∷ 0x66 ∷ 0x00 ∷ 0x00 ∷ 0x0a ∷ 0x04 ∷ 0x01 ∷ 0x02 ∷ 0x00 ∷ 0x0b ∷ []
+
+-- an `else` is added at the place of the `end`
+abbrev pub bare_if_listed : Space → List ℕ
+bare_if_listed Types = 0 ∷ []
+bare_if_listed Functions = 0 ∷ []
+bare_if_listed _ = []
+
+abbrev pub bare_if_plan : Plan
+bare_if_plan = planned (plain ∷ []) bare_if_listed ([]) (0 ∷ []) ([])
+
+abbrev pub bare_if : List ℕ
+bare_if = 0x00 ∷ 0x61 ∷ 0x73 ∷ 0x6d ∷ 0x01 ∷ 0x00 ∷ 0x00 ∷ 0x00 ∷ 0x01 ∷ 0x04 ∷ 0x01 ∷ 0x60 ∷ 0x00 ∷ 0x00 ∷ 0x03 ∷ 0x02 ∷ 0x01 ∷ 0x00 ∷ 0x07 ∷ 0x05 ∷ 0x01 ∷ 0x01 ∷ 0x66 ∷ 0x00 ∷ 0x00 ∷ 0x0a ∷ 0x09 ∷ 0x01 ∷ 0x07 ∷ 0x00 ∷ 0x41 ∷ 0x01 ∷ 0x04 ∷ 0x40 ∷ 0x0b ∷ 0x0b ∷ []
+
+abbrev pub bare_if_out : List ℕ
+bare_if_out = 0x00 ∷ 0x61 ∷ 0x73 ∷ 0x6d ∷ 0x01 ∷ 0x00 ∷ 0x00 ∷ 0x00 ∷ 0x01 ∷ 0x04 ∷ 0x01 ∷ 0x60 ∷ 0x00 ∷ 0x00 ∷ 0x03 ∷ 0x02 ∷ 0x01 ∷ 0x00 ∷ 0x07 ∷ 0x05 ∷ 0x01 ∷ 0x01 ∷ 0x66 ∷ 0x00 ∷ 0x00 ∷ 0x0a ∷ 0x0a ∷ 0x01 ∷ 0x08 ∷ 0x00 ∷ 0x41 ∷ 0x01 ∷ 0x04 ∷ 0x40 ∷ 0x05 ∷ 0x0b ∷ 0x0b ∷ []
+
+-- an unused local goes
+abbrev pub used_local_listed : Space → List ℕ
+used_local_listed Types = 0 ∷ []
+used_local_listed Functions = 0 ∷ []
+used_local_listed _ = []
+
+abbrev pub used_local_plan : Plan
+used_local_plan = planned (plain ∷ []) used_local_listed ([]) (0 ∷ []) ([])
+
+abbrev pub used_local : List ℕ
+used_local = 0x00 ∷ 0x61 ∷ 0x73 ∷ 0x6d ∷ 0x01 ∷ 0x00 ∷ 0x00 ∷ 0x00 ∷ 0x01 ∷ 0x04 ∷ 0x01 ∷ 0x60 ∷ 0x00 ∷ 0x00 ∷ 0x03 ∷ 0x02 ∷ 0x01 ∷ 0x00 ∷ 0x07 ∷ 0x05 ∷ 0x01 ∷ 0x01 ∷ 0x66 ∷ 0x00 ∷ 0x00 ∷ 0x0a ∷ 0x0b ∷ 0x01 ∷ 0x09 ∷ 0x02 ∷ 0x01 ∷ 0x7f ∷ 0x01 ∷ 0x7e ∷ 0x20 ∷ 0x01 ∷ 0x1a ∷ 0x0b ∷ []
+
+abbrev pub used_local_out : List ℕ
+used_local_out = 0x00 ∷ 0x61 ∷ 0x73 ∷ 0x6d ∷ 0x01 ∷ 0x00 ∷ 0x00 ∷ 0x00 ∷ 0x01 ∷ 0x04 ∷ 0x01 ∷ 0x60 ∷ 0x00 ∷ 0x00 ∷ 0x03 ∷ 0x02 ∷ 0x01 ∷ 0x00 ∷ 0x07 ∷ 0x05 ∷ 0x01 ∷ 0x01 ∷ 0x66 ∷ 0x00 ∷ 0x00 ∷ 0x0a ∷ 0x09 ∷ 0x01 ∷ 0x07 ∷ 0x01 ∷ 0x01 ∷ 0x7e ∷ 0x20 ∷ 0x00 ∷ 0x1a ∷ 0x0b ∷ []
+
+-- what stands behind a `return` goes
+abbrev pub behind_return_listed : Space → List ℕ
+behind_return_listed Types = 0 ∷ []
+behind_return_listed Functions = 0 ∷ []
+behind_return_listed _ = []
+
+abbrev pub behind_return_plan : Plan
+behind_return_plan = planned (plain ∷ []) behind_return_listed ([]) (0 ∷ []) ([])
+
+abbrev pub behind_return : List ℕ
+behind_return = 0x00 ∷ 0x61 ∷ 0x73 ∷ 0x6d ∷ 0x01 ∷ 0x00 ∷ 0x00 ∷ 0x00 ∷ 0x01 ∷ 0x04 ∷ 0x01 ∷ 0x60 ∷ 0x00 ∷ 0x00 ∷ 0x03 ∷ 0x02 ∷ 0x01 ∷ 0x00 ∷ 0x07 ∷ 0x05 ∷ 0x01 ∷ 0x01 ∷ 0x66 ∷ 0x00 ∷ 0x00 ∷ 0x0a ∷ 0x08 ∷ 0x01 ∷ 0x06 ∷ 0x00 ∷ 0x0f ∷ 0x41 ∷ 0x07 ∷ 0x1a ∷ 0x0b ∷ []
+
+abbrev pub behind_return_out : List ℕ
+behind_return_out = 0x00 ∷ 0x61 ∷ 0x73 ∷ 0x6d ∷ 0x01 ∷ 0x00 ∷ 0x00 ∷ 0x00 ∷ 0x01 ∷ 0x04 ∷ 0x01 ∷ 0x60 ∷ 0x00 ∷ 0x00 ∷ 0x03 ∷ 0x02 ∷ 0x01 ∷ 0x00 ∷ 0x07 ∷ 0x05 ∷ 0x01 ∷ 0x01 ∷ 0x66 ∷ 0x00 ∷ 0x00 ∷ 0x0a ∷ 0x05 ∷ 0x01 ∷ 0x03 ∷ 0x00 ∷ 0x0f ∷ 0x0b ∷ []
+
+-- what stands behind a tail call stays
+abbrev pub behind_tail_call_listed : Space → List ℕ
+behind_tail_call_listed Types = 0 ∷ []
+behind_tail_call_listed Functions = 0 ∷ 1 ∷ []
+behind_tail_call_listed _ = []
+
+abbrev pub behind_tail_call_plan : Plan
+behind_tail_call_plan = planned (plain ∷ []) behind_tail_call_listed ([]) (0 ∷ []) ([])
+
+abbrev pub behind_tail_call : List ℕ
+behind_tail_call = 0x00 ∷ 0x61 ∷ 0x73 ∷ 0x6d ∷ 0x01 ∷ 0x00 ∷ 0x00 ∷ 0x00 ∷ 0x01 ∷ 0x04 ∷ 0x01 ∷ 0x60 ∷ 0x00 ∷ 0x00 ∷ 0x03 ∷ 0x03 ∷ 0x02 ∷ 0x00 ∷ 0x00 ∷ 0x07 ∷ 0x05 ∷ 0x01 ∷ 0x01 ∷ 0x66 ∷ 0x00 ∷ 0x00 ∷ 0x0a ∷ 0x0b ∷ 0x02 ∷ 0x06 ∷ 0x00 ∷ 0x12 ∷ 0x00 ∷ 0x10 ∷ 0x01 ∷ 0x0b ∷ 0x02 ∷ 0x00 ∷ 0x0b ∷ []
+
+abbrev pub behind_tail_call_out : List ℕ
+behind_tail_call_out = 0x00 ∷ 0x61 ∷ 0x73 ∷ 0x6d ∷ 0x01 ∷ 0x00 ∷ 0x00 ∷ 0x00 ∷ 0x01 ∷ 0x04 ∷ 0x01 ∷ 0x60 ∷ 0x00 ∷ 0x00 ∷ 0x03 ∷ 0x03 ∷ 0x02 ∷ 0x00 ∷ 0x00 ∷ 0x07 ∷ 0x05 ∷ 0x01 ∷ 0x01 ∷ 0x66 ∷ 0x00 ∷ 0x00 ∷ 0x0a ∷ 0x0b ∷ 0x02 ∷ 0x06 ∷ 0x00 ∷ 0x12 ∷ 0x00 ∷ 0x10 ∷ 0x01 ∷ 0x0b ∷ 0x02 ∷ 0x00 ∷ 0x0b ∷ []
+
+-- a function that is referred to, and held nowhere, is declared
+abbrev pub declared_function_listed : Space → List ℕ
+declared_function_listed Types = 0 ∷ []
+declared_function_listed Functions = 0 ∷ 1 ∷ []
+declared_function_listed _ = []
+
+abbrev pub declared_function_plan : Plan
+declared_function_plan = planned (plain ∷ []) declared_function_listed ([]) (0 ∷ []) ((1 ∷ []) ∷ [])
+
+abbrev pub declared_function : List ℕ
+declared_function = 0x00 ∷ 0x61 ∷ 0x73 ∷ 0x6d ∷ 0x01 ∷ 0x00 ∷ 0x00 ∷ 0x00 ∷ 0x01 ∷ 0x04 ∷ 0x01 ∷ 0x60 ∷ 0x00 ∷ 0x00 ∷ 0x03 ∷ 0x03 ∷ 0x02 ∷ 0x00 ∷ 0x00 ∷ 0x06 ∷ 0x06 ∷ 0x01 ∷ 0x70 ∷ 0x00 ∷ 0xd2 ∷ 0x01 ∷ 0x0b ∷ 0x07 ∷ 0x05 ∷ 0x01 ∷ 0x01 ∷ 0x66 ∷ 0x00 ∷ 0x00 ∷ 0x0a ∷ 0x0a ∷ 0x02 ∷ 0x05 ∷ 0x00 ∷ 0xd2 ∷ 0x01 ∷ 0x1a ∷ 0x0b ∷ 0x02 ∷ 0x00 ∷ 0x0b ∷ []
+
+abbrev pub declared_function_out : List ℕ
+declared_function_out = 0x00 ∷ 0x61 ∷ 0x73 ∷ 0x6d ∷ 0x01 ∷ 0x00 ∷ 0x00 ∷ 0x00 ∷ 0x01 ∷ 0x04 ∷ 0x01 ∷ 0x60 ∷ 0x00 ∷ 0x00 ∷ 0x03 ∷ 0x03 ∷ 0x02 ∷ 0x00 ∷ 0x00 ∷ 0x07 ∷ 0x05 ∷ 0x01 ∷ 0x01 ∷ 0x66 ∷ 0x00 ∷ 0x00 ∷ 0x09 ∷ 0x05 ∷ 0x01 ∷ 0x03 ∷ 0x00 ∷ 0x01 ∷ 0x01 ∷ 0x0a ∷ 0x0a ∷ 0x02 ∷ 0x05 ∷ 0x00 ∷ 0xd2 ∷ 0x01 ∷ 0x1a ∷ 0x0b ∷ 0x02 ∷ 0x00 ∷ 0x0b ∷ []
+
+-- the type that a handler lacks is added
+abbrev pub handler_type_listed : Space → List ℕ
+handler_type_listed Types = 0 ∷ 1 ∷ 2 ∷ []
+handler_type_listed Functions = 0 ∷ []
+handler_type_listed Tags = 0 ∷ []
+handler_type_listed _ = []
+
+abbrev pub handler_type_plan : Plan
+handler_type_plan = planned (plain ∷ of_function (I32 ∷ []) [] ∷ of_function (I32 ∷ []) (I32 ∷ []) ∷ []) handler_type_listed ([]) (0 ∷ []) ([])
+
+abbrev pub handler_type : List ℕ
+handler_type = 0x00 ∷ 0x61 ∷ 0x73 ∷ 0x6d ∷ 0x01 ∷ 0x00 ∷ 0x00 ∷ 0x00 ∷ 0x01 ∷ 0x08 ∷ 0x02 ∷ 0x60 ∷ 0x00 ∷ 0x00 ∷ 0x60 ∷ 0x01 ∷ 0x7f ∷ 0x00 ∷ 0x03 ∷ 0x02 ∷ 0x01 ∷ 0x00 ∷ 0x0d ∷ 0x03 ∷ 0x01 ∷ 0x00 ∷ 0x01 ∷ 0x07 ∷ 0x05 ∷ 0x01 ∷ 0x01 ∷ 0x66 ∷ 0x00 ∷ 0x00 ∷ 0x0a ∷ 0x0c ∷ 0x01 ∷ 0x0a ∷ 0x00 ∷ 0x06 ∷ 0x7f ∷ 0x41 ∷ 0x01 ∷ 0x07 ∷ 0x00 ∷ 0x0b ∷ 0x1a ∷ 0x0b ∷ []
+
+abbrev pub handler_type_out : List ℕ
+handler_type_out = 0x00 ∷ 0x61 ∷ 0x73 ∷ 0x6d ∷ 0x01 ∷ 0x00 ∷ 0x00 ∷ 0x00 ∷ 0x01 ∷ 0x0d ∷ 0x03 ∷ 0x60 ∷ 0x00 ∷ 0x00 ∷ 0x60 ∷ 0x01 ∷ 0x7f ∷ 0x00 ∷ 0x60 ∷ 0x01 ∷ 0x7f ∷ 0x01 ∷ 0x7f ∷ 0x03 ∷ 0x02 ∷ 0x01 ∷ 0x00 ∷ 0x0d ∷ 0x03 ∷ 0x01 ∷ 0x00 ∷ 0x01 ∷ 0x07 ∷ 0x05 ∷ 0x01 ∷ 0x01 ∷ 0x66 ∷ 0x00 ∷ 0x00 ∷ 0x0a ∷ 0x0c ∷ 0x01 ∷ 0x0a ∷ 0x00 ∷ 0x06 ∷ 0x7f ∷ 0x41 ∷ 0x01 ∷ 0x07 ∷ 0x00 ∷ 0x0b ∷ 0x1a ∷ 0x0b ∷ []
+
+abbrev pub IsWritten : Plan → List ℕ → List ℕ → List (ℕ × ℕ) → Type 0
+IsWritten p bytes out pairs = (written p bytes ≡ Ok out) × (paired p bytes out ≡ pairs)
+
+pub record FilesAreWritten : Type 0 where
+  pub of_unused_function : IsWritten unused_function_plan unused_function unused_function_out ((7, 3) ∷ [])
+  pub of_larger_first : IsWritten larger_first_plan larger_first larger_first_out ((8, 3) ∷ (10, 5) ∷ (11, 6) ∷ (3, 9) ∷ (5, 11) ∷ [])
+  pub of_merged_types : IsWritten merged_types_plan merged_types merged_types_out ((3, 3) ∷ [])
+  pub of_marked_group : IsWritten marked_group_plan marked_group marked_group_out ((3, 3) ∷ [])
+  pub of_bare_if : IsWritten bare_if_plan bare_if bare_if_out ((3, 3) ∷ (5, 5) ∷ (7, 7) ∷ (8, 9) ∷ [])
+  pub of_used_local : IsWritten used_local_plan used_local used_local_out ((7, 5) ∷ (9, 7) ∷ (10, 8) ∷ [])
+  pub of_behind_return : IsWritten behind_return_plan behind_return behind_return_out ((3, 3) ∷ (7, 4) ∷ [])
+  pub of_behind_tail_call : IsWritten behind_tail_call_plan behind_tail_call behind_tail_call_out ((3, 3) ∷ (5, 5) ∷ (7, 7) ∷ (10, 10) ∷ [])
+  pub of_declared_function : IsWritten declared_function_plan declared_function declared_function_out ((3, 3) ∷ (5, 5) ∷ (6, 6) ∷ (9, 9) ∷ [])
+  pub of_handler_type : IsWritten handler_type_plan handler_type handler_type_out ((3, 3) ∷ (5, 5) ∷ (7, 7) ∷ (9, 9) ∷ (10, 10) ∷ (11, 11) ∷ [])
