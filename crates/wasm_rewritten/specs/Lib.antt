@@ -1,3 +1,4 @@
+pub mod Customs
 pub mod Dense
 pub mod Orderly
 pub mod Places
