@@ -41,11 +41,11 @@ use Rattle.wasm_rewritten.specs.Ruled.{FilesNameTheirLocals}
 
 -- ---- what is in a list
 
-abbrev Among : {A : Type 0} → A → List A → Type 0
+abbrev pub Among : {A : Type 0} → A → List A → Type 0
 Among y [] = ⊥
 Among y (x ∷ xs) = (x ≡ y) ⊎ Among y xs
 
-among : {A : Type 0} (xs : List A) (y : A) → Contains xs y → Among y xs
+pub among : {A : Type 0} (xs : List A) (y : A) → Contains xs y → Among y xs
 among [] y (k, lt, e) = absurd (omega (arith, lt))
 among (x ∷ xs) y (zero, lt, e) = inl e
 among (x ∷ xs) y (suc k, lt, e) = inr (among xs y (k, omega (arith, lt), e))
