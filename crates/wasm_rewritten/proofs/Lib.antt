@@ -1,5 +1,6 @@
 mod Calls
 mod Dense
+mod Exports
 mod Listed
 mod LocalsNamed
 mod Named

@@ -1,11 +1,10 @@
 -- Lemmas: the types of the locals that a function of a file's normal form declares are among what it names.
-use Rattle.std.specs.Prelude.{ℕ, zero, suc, ◌≡◌, ◌<◌, ◌≤◌, ◌+◌, ◌==◌, ◌⊎◌, ◌||◌, nat_lt, Bool, true, false, List, [], ◌∷◌, ◌++◌, length, map, Contains, Option, Some, None, slice_get, slice_index_or, refl, if◌then◌else◌}
-use Rattle.std.specs.List.{AllByRecursion, filter, flat_map, list_any}
+use Rattle.std.specs.Prelude.{ℕ, zero, suc, ◌≡◌, ◌<◌, ◌≤◌, ◌+◌, ◌==◌, ◌⊎◌, ◌||◌, Bool, true, false, List, [], ◌∷◌, ◌++◌, length, map, Contains, Option, Some, None, slice_get, slice_index_or, refl, if◌then◌else◌}
+use Rattle.std.specs.List.{filter, flat_map, list_any}
 use Rattle.std.specs.Option.{option_map}
 use Rattle.std.proofs.Common.{ap, sym, ◌∙◌, subst, arith, cond, inl, inr}
 use Rattle.std.proofs.lemmas.Bool.{eq-eqb, eqb-true, le-ltb}
 use Rattle.std.proofs.lemmas.List.{length-map}
-use Rattle.std.proofs.lemmas.Option.{slice_get_within}
 use Rattle.walrus_forms.specs.Forms.{Form, FunctionForm, StructForm, ArrayForm, params_of}
 use Rattle.walrus_forms.specs.Kinds.{Kind}
 use Rattle.walrus_forms.specs.Records.{TypeGroup}
@@ -13,16 +12,15 @@ use Rattle.walrus_forms.specs.Renaming.{at, renamed_form, renamed_kind, renamed_
 use Rattle.walrus_forms.specs.declared.value.ValType.{ValType}
 use Rattle.wasm_features.specs.declared.WasmFeatures.{WasmFeatures}
 use Rattle.wasm_operators.specs.Items.{Types, Functions, Tables, Memories, Tags, Globals, ElementSegments, DataSegments, Locals, Labels, Item, Names, Number, S32, S64, Bits, Byte, Bytes, Heap, Block, Access, ManyLabels, ManyValues, ManyClauses}
-use Rattle.wasm_operators.specs.Names.{Name, Renaming, block_names, item_names, operator_names, renamed_item, renamed_operator}
-use Rattle.wasm_operators.specs.Operators.{Seen}
+use Rattle.wasm_operators.specs.Names.{Name, Renaming, block_names, item_names, operator_names, renamed_item}
 use Rattle.wasm_operators.specs.declared.block_type.BlockType.{BlockType}
 use Rattle.wasm_grammar.specs.Modules as grammar
 use Rattle.wasm_grammar.specs.Modules.{Origin, Imported, Own, Body, Function, Module}
 use Rattle.wasm_grammar.specs.States.{form_test, types_of}
 use Rattle.wasm_body_grammar.specs.Codes.{param_count, kind_params as count_params}
 use Rattle.wasm_body_grammar.specs.Rules.{Around}
-use Rattle.wasm_module_rules.specs.Linked.{Each, IsFunctionType}
-use Rattle.wasm_references.specs.References.{Numbered, body_items, function_items, item, local_items, name_items, names_items, value_items}
+use Rattle.wasm_module_rules.specs.Linked.{IsFunctionType}
+use Rattle.wasm_references.specs.References.{Numbered, function_items, local_items, name_items, names_items, value_items}
 use Rattle.wasm_ruled_modules.specs.Rules.{around_bodies}
 use Rattle.wasm_normal_form.specs.Bodies.{is_used, local_in, locals_named, new_number, used_keys}
 use Rattle.wasm_normal_form.specs.Locals.{Key, in_order, insert_key, is_less, key_cmp, numbered, position}
@@ -33,7 +31,7 @@ use Rattle.wasm_run_names.specs.Picks.{block_pick}
 use Rattle.wasm_ruled_renamed.specs.Bodies.{normal_renamed, with_numbers}
 use Rattle.wasm_ruled_renamed.specs.Types.{Retypes}
 use Rattle.wasm_ruled_renamed.specs.Renamed.{renamed_placed}
-use Rattle.wasm_normal_modules.specs.Modules.{MeetsRules, by_types, each, normal_function, normal_origin}
+use Rattle.wasm_normal_modules.specs.Modules.{MeetsRules, by_types, normal_function, normal_origin}
 use Rattle.wasm_merged_modules.specs.Merged.{TypesAreMerged, ids_of, merged_module}
 use Rattle.wasm_normal_modules.proofs.Slots.{slot_sent}
 use Rattle.wasm_part.specs.Kept.{LocalsNamed}
@@ -43,11 +41,11 @@ use Rattle.wasm_rewritten.specs.Ruled.{FilesNameTheirLocals}
 
 -- ---- what is in a list
 
-abbrev Among : {A : Type 0} → A → List A → Type 0
+abbrev pub Among : {A : Type 0} → A → List A → Type 0
 Among y [] = ⊥
 Among y (x ∷ xs) = (x ≡ y) ⊎ Among y xs
 
-among : {A : Type 0} (xs : List A) (y : A) → Contains xs y → Among y xs
+pub among : {A : Type 0} (xs : List A) (y : A) → Contains xs y → Among y xs
 among [] y (k, lt, e) = absurd (omega (arith, lt))
 among (x ∷ xs) y (zero, lt, e) = inl e
 among (x ∷ xs) y (suc k, lt, e) = inr (among xs y (k, omega (arith, lt), e))

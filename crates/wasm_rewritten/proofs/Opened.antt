@@ -1,10 +1,7 @@
 -- Lemmas: an operator of a file, and of its normal form, opens a block or has no block type.
-use Rattle.std.specs.Prelude.{ℕ, suc, ◌≡◌, ◌⊎◌, Bool, true, false, List, [], ◌∷◌, ◌++◌, drop, fold, length, map, Option, Some, None, refl}
+use Rattle.std.specs.Prelude.{ℕ, suc, ◌≡◌, ◌⊎◌, Bool, true, false, List, [], ◌∷◌, ◌++◌, drop, fold, length, map, Option, Some, None}
 use Rattle.std.specs.List.{AllByRecursion, filter_map}
-use Rattle.std.specs.Option.{option_map}
-use Rattle.std.proofs.Common.{ap, sym, subst, arith, inl, inr}
-use Rattle.walrus_forms.specs.Records.{TypeGroup}
-use Rattle.walrus_forms.specs.Renaming.{at}
+use Rattle.std.proofs.Common.{subst, arith, inl, inr}
 use Rattle.wasm_features.specs.declared.WasmFeatures.{WasmFeatures}
 use Rattle.wasm_formats.specs.Bytes.{either_type}
 use Rattle.wasm_formats.specs.Lists.{SpellsEntries}
@@ -16,15 +13,15 @@ use Rattle.wasm_operators.specs.Spellings.{SpellsEither}
 use Rattle.wasm_grammar.specs.Modules.{Origin, Imported, Own, Body, Function, Module}
 use Rattle.wasm_grammar.specs.Modules as grammar
 use Rattle.wasm_grammar.specs.States.{Chunk, State}
-use Rattle.wasm_body_grammar.specs.Bodies.{Point, body_of, is_closed, next_point, operator, operator_in, opened, placed as placed_at, next_total}
+use Rattle.wasm_body_grammar.specs.Bodies.{Point, is_closed, next_point, operator, operator_in, opened, placed as placed_at, next_total}
 use Rattle.wasm_body_grammar.specs.Codes.{ReadsCodes, coded, filled_with, own_type, param_count, with_bodies}
 use Rattle.wasm_body_grammar.specs.Laws.{ReadsBody}
 use Rattle.wasm_body_grammar.specs.Rules.{Around}
-use Rattle.wasm_modules.specs.Modules.{Reads, around, chunks_of, module_of}
+use Rattle.wasm_modules.specs.Modules.{Reads, around, chunks_of}
 use Rattle.wasm_module_rules.specs.Linked.{Each}
 use Rattle.wasm_ruled_modules.specs.Codes.{bodies_match}
-use Rattle.wasm_normal_form.specs.Normal.{closed, normal, normal_from, normal_ops, picked, with_pick}
-use Rattle.wasm_normal_form.specs.Roles.{Placed, Passes, Runs, Opens, Turns, Ends, Role, cuts, is_if, placed, role}
+use Rattle.wasm_normal_form.specs.Normal.{normal, normal_from, normal_ops, picked, with_pick}
+use Rattle.wasm_normal_form.specs.Roles.{Placed, Passes, Runs, Opens, Turns, Ends, Role, cuts, is_if, role}
 use Rattle.wasm_normal_form.specs.Trees.{Tree, Close, Arm, Skip, Run, Nest, flat, innermost, open_in, prepend, tree_of}
 use Rattle.wasm_ruled_normal.specs.Normal.{IsPicked, OpensPicked, located, text_of}
 use Rattle.wasm_run_names.specs.Picks.{block_pick}

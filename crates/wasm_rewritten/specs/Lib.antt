@@ -1,4 +1,6 @@
+pub mod Customs
 pub mod Dense
+pub mod Exports
 pub mod Orderly
 pub mod Places
 pub mod Rewritten

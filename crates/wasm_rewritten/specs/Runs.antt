@@ -10,7 +10,7 @@ use Rattle.wasm_formats.specs.declared.fault.Space.TheVariants as spaces
 use Rattle.wasm_operators.specs.declared.block_type.BlockType.{BlockType}
 use Rattle.wasm_operators.specs.Items.{Types, Functions}
 use Rattle.wasm_operators.specs.Names.{Name, Renaming, item_names}
-use Rattle.wasm_grammar.specs.Modules.{Custom, Origin, Imported, Own, Body, Export, Function, Module}
+use Rattle.wasm_grammar.specs.Modules.{Origin, Imported, Own, Body, Export, Function, Module}
 use Rattle.wasm_body_grammar.specs.Codes.{param_count}
 use Rattle.wasm_body_grammar.specs.Rules.{Around}
 use Rattle.wasm_ruled_modules.specs.Rules.{around_bodies}
@@ -114,8 +114,8 @@ abbrev pub ReadFilesAreAsked : Type 0
 ReadFilesAreAsked = (features : WasmFeatures) (bytes : List ℕ) (file : Module) (more : List TypeGroup) → Reads features bytes file → HasHandlers file more → Asked features more file
 
 abbrev pub RewrittenRunsCorrespond : Type 0
-RewrittenRunsCorrespond = (place : Option ℕ → ℕ) (customs : Module → Plan → List Custom) (features : WasmFeatures) (input bytes : List ℕ) (places : Option (List (ℕ × ℕ)))
-    (w : Rewritten place customs features input bytes places) → SameTraces features w.file w.n w.p
+RewrittenRunsCorrespond = (place : Option ℕ → ℕ) (names producers : Bool) (features : WasmFeatures) (input bytes : List ℕ) (places : Option (List (ℕ × ℕ)))
+    (w : Rewritten place names producers features input bytes places) → SameTraces features w.file w.n w.p
 
 -- ---- calls
 

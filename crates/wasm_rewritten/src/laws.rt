@@ -1,12 +1,13 @@
 //! Laws: functions with nothing to do but to call others, whose contracts hold of all modules.
 
 ghost use Rattle.wasm_rewritten.specs.Dense.{PartsAreDense};
+ghost use Rattle.wasm_rewritten.specs.Exports.{ExportsStay};
 ghost use Rattle.wasm_rewritten.specs.Orderly.{ReadFilesAreOrderly};
 ghost use Rattle.wasm_rewritten.specs.Ruled.{FilesNameTheirLocals, ReadFilesArePicked, WrittenPartsAreRuled};
 ghost use Rattle.wasm_rewritten.specs.Runs.{CallsAreKept, CorrespondingRuns, EntriesAreKept, KeptIsDecided, PicksKeepThrough, ReadFilesAreAsked, RewrittenRunsCorrespond, WrittenRunsTheSame, WrittenStandsNormal};
 
 use walrus_forms::laws::same_kind_is_equality;
-use wasm_import_links::laws::read_modules_link;
+use wasm_import_links::laws::{read_modules_are_full, read_modules_link};
 use wasm_merged_modules::laws::{merged_files_are_ruled, new_kinds_stand_behind, types_are_merged};
 use wasm_normal_form::laws::{normal_forms_are_normal, trees_are_one};
 use wasm_normal_modules::laws::{
@@ -117,4 +118,11 @@ pub fn written_parts_are_ruled()
     normal_forms_of_read_modules_are_ruled();
     new_kinds_stand_behind();
     kept_parts_are_ruled();
+}
+
+/// In what is written of a file exports keep their names, kinds and order, and the imports that are kept theirs.
+pub fn exports_stay()
+    ensures { ExportsStay }
+{
+    read_modules_are_full();
 }
