@@ -28,8 +28,8 @@ from compare import LARGE_PAGES, back
 from make_module import section, unsigned, vector
 
 ROOT = os.path.dirname(os.path.dirname(os.path.abspath(__file__)))
-REWRITER = f"{ROOT}/crates/wasm_rewriter_cli/out/wasm_rewriter_cli"
-INSPECTOR = f"{ROOT}/crates/walrus_inspect_cli/out/walrus_inspect_cli"
+REWRITER = f"{ROOT}/out/proved/wasm_rewriter"
+INSPECTOR = f"{ROOT}/out/proved/walrus_inspect"
 # In 24 bytes, whatever eight ASCII bytes follow.
 COLLIDING = b"d3cljs4c6ezfz6tz" + bytes.fromhex("576a68d6a3d8997c")
 PREFIX = b"a" * 200

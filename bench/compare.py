@@ -16,7 +16,7 @@ import tempfile
 import time
 
 ROOT = os.path.dirname(os.path.dirname(os.path.abspath(__file__)))
-PROGRAM = f"{ROOT}/crates/wasm_rewriter_cli/out/wasm_rewriter_cli"
+PROGRAM = f"{ROOT}/out/proved/wasm_rewriter"
 PACKAGES = {"wasm-opt": "binaryen", "wasm-strip": "wabt"}
 
 
@@ -34,7 +34,7 @@ def install():
     sys.exit(f"{' '.join(missing)} could not be installed")
 
 
-# What bin/program sets: the C library asks for large pages.
+# What bin/run.sh sets: the C library asks for large pages.
 LARGE_PAGES = {"GLIBC_TUNABLES": "glibc.malloc.hugetlb=1"}
 TOUCH = """
 import mmap, sys

@@ -11,7 +11,7 @@ import sys
 import tempfile
 
 ROOT = os.path.dirname(os.path.dirname(os.path.abspath(__file__)))
-PROGRAM = f"{ROOT}/crates/wasm_rewriter_cli/out/wasm_rewriter_cli"
+PROGRAM = f"{ROOT}/out/proved/wasm_rewriter"
 HEAD = bytes.fromhex("0061736d01000000" "010401600000" "03020100" "07050101660000")
 INPUT = HEAD + bytes.fromhex("0a05010300010b")
 OUTPUT = HEAD + bytes.fromhex("0a040102000b")
@@ -64,7 +64,7 @@ def failures(row):
 
 
 def main():
-    subprocess.run([f"{ROOT}/bin/wasm_rewriter", "--help"], check=True, stdout=subprocess.DEVNULL)
+    subprocess.run([f"{ROOT}/bin/build", "wasm_rewriter"], check=True)
     wrong = [(row[0], what) for row in ROWS for what in failures(row)]
     for words, what in wrong:
         print(f"{words}: {what}")

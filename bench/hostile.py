@@ -1,7 +1,7 @@
 #!/usr/bin/env python3
 """Hostile shapes at two sizes through a built wasm_rewriter, with a stack of 256 KiB: seconds of the processor, memory, and whether the output is right.
 
-    bench/hostile.py PROGRAM COUNT        e.g. bench/hostile.py crates/wasm_rewriter_cli/out/wasm_rewriter_cli 250000
+    bench/hostile.py PROGRAM COUNT        e.g. bench/hostile.py out/proved/wasm_rewriter 250000
 
 Each shape has COUNT parts, then twice as many: nests, chains of items, long lists. An output has to be the input where that is in normal form already, or a header alone where
 nothing is kept. The last column is the factor of the doubling; a program that recursed along the nesting would run out of its stack.

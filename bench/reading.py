@@ -20,16 +20,14 @@ import tempfile
 from compare import LARGE_PAGES, back, install, measured
 
 ROOT = os.path.dirname(os.path.dirname(os.path.abspath(__file__)))
-CRATE = f"{ROOT}/crates/walrus_inspect_cli"
-PROGRAM = f"{CRATE}/out/walrus_inspect_cli"
+PROGRAM = f"{ROOT}/out/proved/walrus_inspect"
 # The largest count of each shape: code of some 50 MB, a million of each other thing but of segments, of which there may be fewer (they are small, and data is the same with longer ones).
 COUNTS = {"code": 200_000, "names": 1_000_000, "exports": 1_000_000, "segments": 100_000, "data": 100_000, "types": 1_000_000}
 
 
 def build():
     if not os.path.exists(PROGRAM):
-        print("building walrus_inspect", file=sys.stderr)
-        subprocess.run(["rt", "run", "--", "--version"], cwd=CRATE, check=True, stdout=subprocess.DEVNULL)
+        subprocess.run([f"{ROOT}/bin/build", "walrus_inspect"], check=True)
 
 
 def least(runs):

@@ -2,6 +2,7 @@
 ghost use Rattle.std.specs.Prelude.{◌≡◌};
 ghost use Rattle.inspect_program.specs.Outcomes.{status_of};
 
+use input_words::{Start, TEXT_HINT};
 use std::io::ErrorKind;
 use std::{fmt, io};
 use walrus_errors::ModuleError;
@@ -11,6 +12,13 @@ use walrus_errors::ModuleError;
 pub enum Failure<'a> {
     /// The module is refused.
     Refused(ModuleError),
+    /// The module is refused, and its file begins as a text does.
+    IsText {
+        /// The word that names it, or `standard input`.
+        file: &'a str,
+        /// The refusal.
+        error: ModuleError,
+    },
     /// The file can't be read.
     Unread {
         /// The word that names it, or `standard input`.
@@ -31,8 +39,23 @@ impl<'a> Failure<'a> {
         if cause.kind() == ErrorKind::OutOfMemory {
             return Failure::Refused(ModuleError::Memory);
         }
-        let file = if word == "-" { "standard input" } else { word };
-        Failure::Unread { file, cause }
+        Failure::Unread {
+            file: name_of(word),
+            cause,
+        }
+    }
+
+    /// The failure of a file that a word names, `-` for standard input, whose bytes are refused.
+    pub fn of_refusal(word: &'a str, bytes: &[u8], error: ModuleError) -> Failure<'a> {
+        match error {
+            ModuleError::Header { .. } if Start::Blank.after(bytes) == Start::Text => {
+                Failure::IsText {
+                    file: name_of(word),
+                    error,
+                }
+            }
+            _ => Failure::Refused(error),
+        }
     }
 
     /// The status with which the program ends then.
@@ -40,7 +63,7 @@ impl<'a> Failure<'a> {
         ensures { result ≡ status_of self.now }
     {
         match self {
-            Failure::Refused(_) => 1,
+            Failure::Refused(_) | Failure::IsText { .. } => 1,
             Failure::Unread { .. } | Failure::Unwritten { .. } => 3,
         }
     }
@@ -49,10 +72,11 @@ impl<'a> Failure<'a> {
 impl fmt::Display for Failure<'_> {
     fn fmt<W: fmt::Write>(&self, f: &mut fmt::Formatter<W>) -> fmt::Result {
         match self {
-            Failure::Refused(error) => match error.offset() {
-                Some(offset) => write!(f, "error at {offset}: {error}"),
-                None => write!(f, "error: {error}"),
-            },
+            Failure::Refused(error) => write_refusal(f, error),
+            Failure::IsText { file, error } => {
+                write_refusal(f, error)?;
+                write!(f, "\n  {file}: {TEXT_HINT}")
+            }
             Failure::Unread { file, cause } => {
                 write!(f, "error: input can not be read\n  {file}: {cause}")
             }
@@ -64,4 +88,16 @@ impl fmt::Display for Failure<'_> {
             }
         }
     }
+}
+
+fn write_refusal<W: fmt::Write>(f: &mut fmt::Formatter<W>, error: &ModuleError) -> fmt::Result {
+    match error.offset() {
+        Some(offset) => write!(f, "error at {offset}: {error}"),
+        None => write!(f, "error: {error}"),
+    }
+}
+
+// The name of the file that a word names.
+fn name_of(word: &str) -> &str {
+    if word == "-" { "standard input" } else { word }
 }

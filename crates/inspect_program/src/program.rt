@@ -8,6 +8,7 @@ ghost use Rattle.walrus_errors.specs.declared.error.ModuleError.{ModuleError};
 use crate::{Failure, Job, job_of, read_input, words_of};
 use clap::Error;
 use clap::error::ErrorKind;
+use input_words::LONG_INPUT_LEN;
 use inspect_lines::{Counts, lines_of};
 use std::alloc::Global;
 use std::convert::AsStr;
@@ -35,25 +36,39 @@ pub trait Inspector {
         ensures { answers self.now bytes.now config kept result };
 }
 
-/// Does what the words ask for with which the program was started, and says with which status it ends.
+/// Does what the words ask for with which the program was started, and says with which status it ends. Where progress is
+/// shown, it says on standard error when a long input was read.
 pub fn status<R: Files + Env + Input + Print + Eprint + AllocGlobal, I: Inspector>(
     rt: &R,
     inspector: &I,
+    shows_progress: bool,
 ) -> u8 {
     match words_of(rt) {
-        Ok(words) => run_words(rt, inspector, &words),
+        Ok(words) => run_shown(rt, inspector, &words, shows_progress),
         Err(error) => tell(rt, &error),
     }
 }
 
-/// The same for these words, the program's name first.
+/// The same for these words, the program's name first, where no progress is shown.
 pub fn run_words<R: Files + Input + Print + Eprint + AllocGlobal, I: Inspector, S: AsStr>(
     rt: &R,
     inspector: &I,
     words: &[S],
 ) -> u8 {
+    run_shown(rt, inspector, words, false)
+}
+
+fn run_shown<R: Files + Input + Print + Eprint + AllocGlobal, I: Inspector, S: AsStr>(
+    rt: &R,
+    inspector: &I,
+    words: &[S],
+    shows_progress: bool,
+) -> u8 {
     match job_of(rt.alloc(), words) {
-        Ok(job) => run_job(rt, inspector, &job),
+        Ok(mut job) => {
+            job.shows_progress = shows_progress;
+            run_job(rt, inspector, &job)
+        }
         Err(error) => tell(rt, &error),
     }
 }
@@ -84,7 +99,7 @@ fn run_job<R: Files + Input + Print + Eprint + AllocGlobal, I: Inspector>(
 }
 
 // Writes the lines of the file's module to standard output.
-fn inspect_file<'a, R: Files + Input + Print + AllocGlobal, I: Inspector>(
+fn inspect_file<'a, R: Files + Input + Print + Eprint + AllocGlobal, I: Inspector>(
     rt: &R,
     inspector: &I,
     job: &Job<'a>,
@@ -93,13 +108,24 @@ fn inspect_file<'a, R: Files + Input + Print + AllocGlobal, I: Inspector>(
         Ok(bytes) => bytes,
         Err(cause) => return Err(Failure::of_file(job.input, cause)),
     };
+    if job.shows_progress {
+        tell_read(rt, bytes.len() as u64);
+    }
     let text = match text_of(rt.alloc(), inspector, &bytes, job.config, job.kept) {
         Ok(text) => text,
-        Err(error) => return Err(Failure::Refused(error)),
+        Err(error) => return Err(Failure::of_refusal(job.input, &bytes, error)),
     };
     match rt.write_all(&text) {
         Ok(()) => Ok(()),
         Err(cause) => Err(Failure::Unwritten { cause }),
+    }
+}
+
+// Says on standard error that so many bytes were read, where they are many.
+fn tell_read<R: Eprint>(rt: &R, count: u64) {
+    if count > LONG_INPUT_LEN {
+        let megabytes = count / 1_000_000;
+        let _ = eprintln!(rt; "walrus_inspect: {megabytes} MB are read, and being counted");
     }
 }
 

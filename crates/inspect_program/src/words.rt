@@ -10,9 +10,9 @@ use std::rt::Env;
 use std::{env, io};
 use walrus_config::ModuleConfig;
 
-// Of what offsets are counted.
+// Of what offsets are counted, what is no module, and whose version is told.
 const AFTER_HELP: &str =
-    "A fault's offset is counted from the start of INPUT, in bytes and in decimal.";
+    "A fault's offset is counted from the start of INPUT, in bytes and in decimal.\n`wasm-objdump` and browsers write offsets in hexadecimal: offset 178 is theirs of 0xb2.\n\nOf a text (`.wat`) `wat2wasm` (WABT) and `wasm-as` (Binaryen) make a module, which is what INPUT has to be.\n\nThe version 0.28.0 is that of the Rust crate `walrus`, of which the library below is a port.";
 
 /// What the words ask for.
 #[derive(Clone, Copy)]
@@ -22,6 +22,8 @@ pub struct Job<'a> {
     pub config: ModuleConfig,
     /// Whether just what is kept is counted.
     pub kept: bool,
+    /// Whether it is said on standard error when a long input was read.
+    pub shows_progress: bool,
 }
 
 /// The words that the program was started with, its name first.
@@ -54,6 +56,7 @@ pub fn job_of<'a, S: AsStr>(alloc: Global, words: &'a [S]) -> Result<Job<'a>, Er
         input: matches.get_str("INPUT").unwrap_or(""),
         config: config_of(matches.get_flag("stable"), matches.get_flag("no-legacy")),
         kept: matches.get_flag("kept"),
+        shows_progress: false,
     })
 }
 

@@ -2,12 +2,12 @@
 use std::{fmt, io};
 use wasm_rewriter::Fault;
 
-/// A fault, and for one of a file the word that names it and what the system said.
+/// A fault, and for one of a file the word that names it and what the system said, or what is said of a text.
 #[derive(Drop)]
 pub struct Failure<'a> {
     /// The fault.
     pub fault: Fault,
-    /// The word of the file, and what the system said.
+    /// The word of the file, and what is said of it.
     pub cause: Option<(&'a str, io::Error)>,
 }
 

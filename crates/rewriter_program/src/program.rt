@@ -10,26 +10,42 @@ use crate::{
 };
 use clap::Error;
 use clap::error::ErrorKind;
+use input_words::TEXT_HINT;
 use std::convert::AsStr;
 use std::io;
 use std::rt::{Env, Files};
 use wasm_rewriter::{Fault, run};
 
-/// Does what the words ask for with which the program was started, and says with which status it ends.
-pub fn status<R: Files + Env + Input + Print + Eprint + AllocGlobal>(rt: &R) -> u8 {
+/// Does what the words ask for with which the program was started, and says with which status it ends. Where progress is
+/// shown, it says on standard error when a long input was read.
+pub fn status<R: Files + Env + Input + Print + Eprint + AllocGlobal>(
+    rt: &R,
+    shows_progress: bool,
+) -> u8 {
     match words_of(rt) {
-        Ok(words) => run_words(rt, &words),
+        Ok(words) => run_shown(rt, &words, shows_progress),
         Err(error) => tell(rt, &error),
     }
 }
 
-/// The same for these words, the program's name first.
+/// The same for these words, the program's name first, where no progress is shown.
 pub fn run_words<R: Files + Input + Print + Eprint + AllocGlobal, S: AsStr>(
     rt: &R,
     words: &[S],
 ) -> u8 {
+    run_shown(rt, words, false)
+}
+
+fn run_shown<R: Files + Input + Print + Eprint + AllocGlobal, S: AsStr>(
+    rt: &R,
+    words: &[S],
+    shows_progress: bool,
+) -> u8 {
     match job_of(rt.alloc(), words) {
-        Ok(job) => run_job(rt, &job),
+        Ok(mut job) => {
+            job.shows_progress = shows_progress;
+            run_job(rt, &job)
+        }
         Err(error) => tell(rt, &error),
     }
 }
@@ -104,13 +120,15 @@ impl Targets {
 ///
 /// # Errors
 ///
-/// The fault of the run; for one of a file with the word that names it and what the system said.
-pub fn rewrite_files<'a, R: Files + Input + Print + AllocGlobal>(
+/// The fault of the run; for one of a file with the word that names it and what the system said; where a text is read for a
+/// module, with a hint.
+pub fn rewrite_files<'a, R: Files + Input + Print + Eprint + AllocGlobal>(
     rt: &R,
     job: &Job<'a>,
     targets: &Targets,
 ) -> Result<(), Failure<'a>> {
     let mut reader = InputFile::new(rt, job.input);
+    reader.show_progress(job.shows_progress);
     let mut writer = OutputFile::new(rt, &targets.output);
     let mut places_writer = OutputFile::new(rt, &targets.places);
     let answer = run(
@@ -126,6 +144,12 @@ pub fn rewrite_files<'a, R: Files + Input + Print + AllocGlobal>(
     let output = "standard output";
     let (file, cause) = match fault {
         Fault::ReaderFault => (name_of(job.input, "standard input"), reader.into_cause()),
+        Fault::Header { .. } if reader.is_text() => {
+            (
+                name_of(job.input, "standard input"),
+                Some(io::Error::other(TEXT_HINT)),
+            )
+        }
         Fault::WriterFault { .. } => (name_of(job.output, output), writer.into_cause()),
         Fault::PlacesFault { .. } => {
             (

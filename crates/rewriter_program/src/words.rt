@@ -11,9 +11,9 @@ use std::rt::Env;
 use std::{env, io};
 use wasm_rewriter::Options;
 
-// Of what offsets and places are counted, and what becomes of object files.
+// Of what offsets and places are counted, what becomes of object files, what is no module, and whose version is told.
 const AFTER_HELP: &str =
-    "A fault's offset is counted from the start of INPUT, and a place from the function count of the code section, both in bytes and in decimal.\n\nAn object file (a module with a section `linking` or `reloc.*`) is rewritten, too. These sections are copied as they are: its symbol table then names what is gone.";
+    "A fault's offset is counted from the start of INPUT, and a place from the function count of the code section, both in bytes and in decimal.\n`wasm-objdump` and browsers write offsets in hexadecimal: offset 178 is theirs of 0xb2. Of a line `OLD NEW` of FILE, OLD is a place in INPUT, and NEW one in OUTPUT. A place plus the start of that file's code section, which `wasm-objdump -h` tells (`Code start=0x..`), is an offset in that file.\n\nAn object file (a module with a section `linking` or `reloc.*`) is rewritten, too. These sections are copied as they are: its symbol table then names what is gone.\n\nOf a text (`.wat`) `wat2wasm` (WABT) and `wasm-as` (Binaryen) make a module, which is what INPUT has to be.\n\nThe version 0.28.0, here and in the section `producers`, is that of the Rust crate `walrus`, of which this is a port.";
 
 /// What the words ask for.
 #[derive(Clone, Copy)]
@@ -22,6 +22,8 @@ pub struct Job<'a> {
     pub output: &'a str,
     pub places: Option<&'a str>,
     pub options: Options,
+    /// Whether it is said on standard error when a long input was read.
+    pub shows_progress: bool,
 }
 
 /// Two files that are one, and may not be.
@@ -94,6 +96,7 @@ pub fn job_of<'a, S: AsStr>(alloc: Global, words: &'a [S]) -> Result<Job<'a>, Er
         output: required(&matches, "OUTPUT"),
         places,
         options,
+        shows_progress: false,
     })
 }
 

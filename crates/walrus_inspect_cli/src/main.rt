@@ -6,8 +6,10 @@ mod read;
 
 use inspect_program::status;
 use read::Modules;
+use std::io::IsTerminal;
 use std::process::ExitCode;
 
 fn main(rt: HostRuntime) -> ExitCode {
-    ExitCode::from(status(&rt, &Modules))
+    let is_seen = rt.stderr().is_terminal();
+    ExitCode::from(status(&rt, &Modules, is_seen))
 }

@@ -128,9 +128,9 @@ counted_fault e function params old i fault (inr stops) =
     let F : ℕ → Type 0 = λ n. IsFiled e i function n old.window.features a → (t : Stop) × ((body a n (place_at e.code_start old)).parse (rest old) ≡ Err t) × IsFaultOf (end_of old) t fault in
     subst F filed.locals_are (stops a) filed)
 
-pub of_kept : {T E P Q : Type 0} (r : Result T E) → MatchResult r (λ _. P) (λ _. Q) → OnOk r P
-of_kept (Ok x) p = p
-of_kept (Err e) p = tt
+pub of_kept : {T E : Type 0} (P Q : Type 0) (r : Result T E) → MatchResult r (λ _. P) (λ _. Q) → OnOk r P
+of_kept P Q (Ok x) p = p
+of_kept P Q (Err e) p = tt
 
 pub of_ok : {T E : Type 0} {P Q : T → Type 0} (r : Result T E) → ((x : T) → P x → Q x) → IfOk r P → IfOk r Q
 of_ok (Ok x) f p = f x p

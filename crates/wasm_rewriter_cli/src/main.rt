@@ -2,8 +2,10 @@
 #![tactic(auto)]
 
 use rewriter_program::status;
+use std::io::IsTerminal;
 use std::process::ExitCode;
 
 fn main(rt: HostRuntime) -> ExitCode {
-    ExitCode::from(status(&rt))
+    let is_seen = rt.stderr().is_terminal();
+    ExitCode::from(status(&rt, is_seen))
 }

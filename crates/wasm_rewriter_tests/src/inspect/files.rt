@@ -92,6 +92,14 @@ fn failures_are_told(rt: HostRuntime) {
             "error: out of memory",
         ),
         (
+            Failure::of_refusal("in.wat", b"\n (module)", ModuleError::Header { offset: 0 }),
+            "error at 0: not a WebAssembly module\n  in.wat: this is a text; `wat2wasm` (WABT) and `wasm-as` (Binaryen) make a module of one",
+        ),
+        (
+            Failure::of_refusal("in.wasm", b"module", ModuleError::Header { offset: 0 }),
+            "error at 0: not a WebAssembly module",
+        ),
+        (
             Failure::of_file("in.wasm", missing()),
             "error: input can not be read\n  in.wasm: No such file or directory (os error 2)",
         ),

@@ -37,6 +37,12 @@ fn says(rt: &HostRuntime, input: &str, output: &str, wanted: &[u8]) -> bool {
     }
 }
 
+// Whether what the file has begins as a text.
+fn is_text(rt: &HostRuntime, path: &str) -> bool {
+    let mut input = rewriter_program::InputFile::new(rt, path);
+    crate::devices::read_of(&mut input).is_some() && input.is_text()
+}
+
 /// Whether each fault is told of its own file, in a folder that has an input.
 pub fn are_told(rt: &HostRuntime, folder: &Folder<'_>) -> bool {
     let input = folder.at("input");
@@ -45,6 +51,9 @@ pub fn are_told(rt: &HostRuntime, folder: &Folder<'_>) -> bool {
         && says(rt, "none/input", "none/output", UNREAD)
         && says(rt, input.as_str(), "none/output", UNWRITTEN)
         && says(rt, input.as_str(), output.as_str(), UNPLACED)
+        && !is_text(rt, input.as_str())
+        && folder.add("text", b"\n (module)")
+        && is_text(rt, folder.at("text").as_str())
 }
 
 #[test]

@@ -153,7 +153,7 @@ fn are_wrong(host: &Host<'_>) -> bool {
         b"error: a word is no UTF-8 text\n\nUsage: wasm_rewriter [OPTIONS] <INPUT> <OUTPUT>\n\nFor more information, try '--help'.\n";
     match words_of(host) {
         Ok(_) => false,
-        Err(error) => is_shown(host.rt.alloc(), &error, text) && status(host) == 2,
+        Err(error) => is_shown(host.rt.alloc(), &error, text) && status(host, false) == 2,
     }
 }
 

@@ -33,7 +33,7 @@ returns-clause-stops c =
     c.parse.ensures.refused
 
 pub returns-clause-kept : goal.returns-clause-kept
-returns-clause-kept c = of_kept c.parse.result c.parse.ensures.kept
+returns-clause-kept c = of_kept _ _ c.parse.result c.parse.ensures.kept
 
 pub returns-clause-tries : goal.returns-clause-tries
 returns-clause-tries c =
