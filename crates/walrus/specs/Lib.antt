@@ -45,7 +45,7 @@ pub use Rattle.walrus_meaning_kept.specs.walrus_meaning.Segments
 pub use Rattle.walrus_meaning_kept.specs.walrus_meaning.Words
 -- Modules that are read.
 pub use Rattle.walrus_parsed_ruled.specs.walrus_parsed_meaning.walrus_parsed_linked.walrus_parsed_items.walrus_named_bodies.Parsed as ReadModules
-pub use Rattle.walrus_parsed_ruled.specs.walrus_parsed_meaning.walrus_parsed_linked.walrus_parsed_items.walrus_named_bodies.Refusals as ReadRefusals
+pub use Rattle.walrus_parse.specs.Refusals as ReadRefusals
 pub use Rattle.walrus_parsed_ruled.specs.walrus_parsed_meaning.walrus_parsed_linked.Linked as ReadLinked
 pub use Rattle.walrus_parsed_ruled.specs.walrus_parsed_meaning.Means as ReadMeaning
 pub use Rattle.walrus_parsed_ruled.specs.Ruled as ReadRuled
