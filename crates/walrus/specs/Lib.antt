@@ -2,6 +2,7 @@
 -- Flags and refusals.
 pub use Rattle.walrus_config.specs.Config
 pub use Rattle.walrus_errors.specs.Refusals
+pub use Rattle.walrus_body_env.specs.Refusals as BodyRefusals
 -- Items and functions with a body.
 pub use Rattle.walrus_collections.specs.walrus_local_function.Locals as FunctionLends
 pub use Rattle.walrus_module_items.specs.Copies as ItemCopies
