@@ -1,5 +1,5 @@
 //! A custom section of the tests' own.
-ghost use Rattle.std.specs.Prelude.{[], ◌∷◌, Some, None, if◌then◌else◌};
+ghost use Rattle.std.specs.Prelude.{true, [], ◌∷◌, Some, None, if◌then◌else◌};
 ghost use Rattle.wasm_formats.specs.declared.fault.Space.TheVariants as spaces;
 ghost use Rattle.walrus_roots.specs.Items.{item};
 
