@@ -30,11 +30,19 @@ pub(crate) fn read_by(
     }
 }
 
+/// What the first function and the first two locals of a module are called, empty where they have no name.
+#[derive(Clone, Copy)]
+pub(crate) struct Called<'a> {
+    pub(crate) function: &'a str,
+    pub(crate) first: &'a str,
+    pub(crate) second: &'a str,
+}
+
 /// What is asked of a module.
 #[derive(Clone, Copy)]
 pub(crate) enum Ask<'a> {
     /// what its first function and its first two locals are called
-    Names([&'a str; 3]),
+    Names(Called<'a>),
     /// the numbers of its locations
     Places(&'a [u32]),
     /// a start function

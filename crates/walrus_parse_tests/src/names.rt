@@ -1,7 +1,7 @@
 //! Names of a file, given to its items, and synthetic ones.
 
 use crate::files::{LOCALS, NAMED};
-use crate::helpers::{Ask, Call, has, read_by};
+use crate::helpers::{Ask, Call, Called, has, read_by};
 use std::alloc::Global;
 use walrus_config::ModuleConfig;
 use walrus_module::Module;
@@ -23,19 +23,19 @@ fn local_name(module: &Module<()>, number: usize) -> &str {
 }
 
 /// Whether the first function, and the first two locals, are called so.
-pub(crate) fn are_called(module: &Module<()>, names: [&str; 3]) -> bool {
+pub(crate) fn are_called(module: &Module<()>, names: Called<'_>) -> bool {
     match module.funcs.iter().next() {
         Some(own) => {
-            text(&own.name) == names[0]
-                && local_name(module, 0) == names[1]
-                && local_name(module, 1) == names[2]
+            text(&own.name) == names.function
+                && local_name(module, 0) == names.first
+                && local_name(module, 1) == names.second
         }
         None => false,
     }
 }
 
 // Whether they are, once the file is read by this call, with synthetic names or without.
-fn gives(alloc: Global, call: Call, bytes: &[u8], synthetic: bool, names: [&str; 3]) -> bool {
+fn gives(alloc: Global, call: Call, bytes: &[u8], synthetic: bool, names: Called<'_>) -> bool {
     let mut config = ModuleConfig::new();
     config.generate_synthetic_names_for_anonymous_items(synthetic);
     has(
@@ -53,7 +53,12 @@ fn items_have_names(rt: HostRuntime) {
         (Call::FromBufferWithConfig, LOCALS, true, ["f0", "l0", "l1"]),
         (Call::Parse, NAMED, true, ["f0", "x", ""]),
     ];
-    for (call, bytes, synthetic, names) in rows {
+    for (call, bytes, synthetic, [function, first, second]) in rows {
+        let names = Called {
+            function,
+            first,
+            second,
+        };
         assert!(rt; gives(rt.alloc(), call, bytes, synthetic, names));
     }
 }
