@@ -44,10 +44,10 @@ pub use Rattle.walrus_meaning_kept.specs.walrus_meaning.Meaning
 pub use Rattle.walrus_meaning_kept.specs.walrus_meaning.Segments
 pub use Rattle.walrus_meaning_kept.specs.walrus_meaning.Words
 -- Modules that are read.
-pub use Rattle.walrus_parsed_ruled.specs.walrus_parsed_meaning.walrus_parsed_linked.walrus_parsed_items.walrus_named_bodies.Parsed as ReadModules
-pub use Rattle.walrus_parsed_ruled.specs.walrus_parsed_meaning.walrus_parsed_linked.walrus_parsed_items.walrus_named_bodies.Refusals as ReadRefusals
-pub use Rattle.walrus_parsed_ruled.specs.walrus_parsed_meaning.walrus_parsed_linked.Linked as ReadLinked
-pub use Rattle.walrus_parsed_ruled.specs.walrus_parsed_meaning.Means as ReadMeaning
+pub use Rattle.walrus_parsed_ruled.specs.walrus_parse_laws.walrus_named_bodies.Parsed as ReadModules
+pub use Rattle.walrus_parsed_ruled.specs.walrus_parse_laws.walrus_named_bodies.Refusals as ReadRefusals
+pub use Rattle.walrus_parsed_ruled.specs.walrus_parse_laws.Linked as ReadLinked
+pub use Rattle.walrus_parsed_ruled.specs.walrus_parse_laws.Means as ReadMeaning
 pub use Rattle.walrus_parsed_ruled.specs.Ruled as ReadRuled
 pub use Rattle.walrus_parsed_ruled.specs.Sent as ReadSent
 pub use Rattle.walrus_parsed_ruled.specs.walrus_sent_laws.Moved as SentRules

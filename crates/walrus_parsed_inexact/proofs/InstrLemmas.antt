@@ -2,39 +2,39 @@
 use Rattle.std.proofs.Common.{ap, inl, inr, subst, sym, ◌∙◌}
 use Rattle.std.specs.List.{AllByRecursion}
 use Rattle.std.specs.Prelude.{if◌then◌else◌, Bool, Err, List, None, Ok, Option, Some, [], false, length, nat_le, nat_lt, refl, slice_get, suc, true, zero, ℕ, ◌%◌, ◌&&◌, ◌+◌, ◌-◌, ◌/◌, ◌==◌, ◌∷◌, ◌≡◌}
-use Rattle.walrus_parsed_served.specs.walrus_parsed_linked.walrus_parsed_items.walrus_named_bodies.walrus_file_bodies.walrus_items_into.walrus_module_env.walrus_body_parser.walrus_body_rules.Sights.{Sight, look, results_of, block_of, function_block, value_block, written_block, handler_of}
-use Rattle.walrus_parsed_served.specs.walrus_parsed_linked.walrus_parsed_items.walrus_named_bodies.walrus_file_bodies.walrus_items_into.walrus_module_env.walrus_handler_types.walrus_body_steps.Meanings.{RunsAs, OpensOf, reference}
+use Rattle.walrus_parsed_served.specs.walrus_parse_laws.walrus_named_bodies.walrus_file_bodies.walrus_items_into.walrus_module_env.walrus_body_parser.walrus_body_rules.Sights.{Sight, look, results_of, block_of, function_block, value_block, written_block, handler_of}
+use Rattle.walrus_parsed_served.specs.walrus_parse_laws.walrus_named_bodies.walrus_file_bodies.walrus_items_into.walrus_module_env.walrus_handler_types.walrus_body_steps.Meanings.{RunsAs, OpensOf, reference}
 use Rattle.walrus_parsed_served.specs.walrus_passes_laws.walrus_exact.Exact.{heap_exact, instr_exact, val_exact}
-use Rattle.walrus_parsed_served.specs.walrus_parsed_linked.walrus_pairing.walrus_forms.declared.value.HeapType.TheVariants as heaps
-use Rattle.walrus_parsed_served.specs.walrus_parsed_linked.walrus_pairing.walrus_forms.declared.value.HeapType.{HeapType}
-use Rattle.walrus_parsed_served.specs.walrus_parsed_linked.walrus_pairing.walrus_forms.declared.value.ValType.TheVariants as values
-use Rattle.walrus_parsed_served.specs.walrus_parsed_linked.walrus_pairing.walrus_forms.declared.value.ValType.{ValType}
+use Rattle.walrus_parsed_served.specs.walrus_parse_laws.walrus_pairing.walrus_forms.declared.value.HeapType.TheVariants as heaps
+use Rattle.walrus_parsed_served.specs.walrus_parse_laws.walrus_pairing.walrus_forms.declared.value.HeapType.{HeapType}
+use Rattle.walrus_parsed_served.specs.walrus_parse_laws.walrus_pairing.walrus_forms.declared.value.ValType.TheVariants as values
+use Rattle.walrus_parsed_served.specs.walrus_parse_laws.walrus_pairing.walrus_forms.declared.value.ValType.{ValType}
 use Rattle.walrus_marks.specs.walrus_instr.declared.instr.Instr.TheVariants as instrs
 use Rattle.walrus_marks.specs.walrus_instr.declared.instr.Instr.{Instr}
 use Rattle.walrus_marks.specs.walrus_instr.declared.seq.InstrSeqType.TheVariants.{Simple, MultiValue}
 use Rattle.walrus_marks.specs.walrus_instr.declared.seq.InstrSeqType.{InstrSeqType}
-use Rattle.walrus_parsed_served.specs.walrus_parsed_linked.walrus_pairing.walrus_codes.Runs.{Run as CodeRun, byte, in_runs}
-use Rattle.walrus_parsed_served.specs.walrus_parsed_linked.walrus_pairing.Laws.{OperatorComesBack, Renames, all}
-use Rattle.walrus_parsed_served.specs.walrus_parsed_linked.walrus_pairing.Looks.{Or, ◌>>=◌}
-use Rattle.walrus_parsed_served.specs.walrus_parsed_linked.walrus_pairing.Read.{at, of_bytes, of_objects, instr_at}
-use Rattle.walrus_parsed_served.specs.walrus_parsed_linked.walrus_pairing.Types.{read_value, written_value}
-use Rattle.walrus_parsed_served.specs.walrus_parsed_linked.walrus_pairing.Write.{either, operator_at, seen_of, heap as heap_op, op as written_op, cast_code, test_code}
+use Rattle.walrus_parsed_served.specs.walrus_parse_laws.walrus_pairing.walrus_codes.Runs.{Run as CodeRun, byte, in_runs}
+use Rattle.walrus_parsed_served.specs.walrus_parse_laws.walrus_pairing.Laws.{OperatorComesBack, Renames, all}
+use Rattle.walrus_parsed_served.specs.walrus_parse_laws.walrus_pairing.Looks.{Or, ◌>>=◌}
+use Rattle.walrus_parsed_served.specs.walrus_parse_laws.walrus_pairing.Read.{at, of_bytes, of_objects, instr_at}
+use Rattle.walrus_parsed_served.specs.walrus_parse_laws.walrus_pairing.Types.{read_value, written_value}
+use Rattle.walrus_parsed_served.specs.walrus_parse_laws.walrus_pairing.Write.{either, operator_at, seen_of, heap as heap_op, op as written_op, cast_code, test_code}
 use Rattle.walrus_parsed_inexact.proofs.ValueLemmas.{InexactType, heap_false, operator_renamed, or_false, read_inexact, some_is, word_read}
 use Rattle.walrus_marks.specs.walrus_walks.Tree.{children}
-use Rattle.walrus_parsed_served.specs.walrus_parsed_linked.walrus_parsed_items.walrus_named_bodies.walrus_file_bodies.walrus_items_into.walrus_module_env.walrus_body_parser.wasm_operators.wasm_features.declared.WasmFeatures.{WasmFeatures}
-use Rattle.walrus_parsed_served.specs.walrus_parsed_linked.walrus_pairing.wasm_operators.Items.{Types, Labels, Item, Names, Byte, Heap, ManyLabels, ManyValues}
-use Rattle.walrus_parsed_served.specs.walrus_parsed_linked.walrus_pairing.wasm_operators.declared.block_type.BlockType.TheVariants as blocks
-use Rattle.walrus_parsed_served.specs.walrus_parsed_linked.walrus_pairing.wasm_operators.declared.block_type.BlockType.{BlockType}
+use Rattle.walrus_parsed_served.specs.walrus_parse_laws.walrus_named_bodies.walrus_file_bodies.walrus_items_into.walrus_module_env.walrus_body_parser.wasm_operators.wasm_features.declared.WasmFeatures.{WasmFeatures}
+use Rattle.walrus_parsed_served.specs.walrus_parse_laws.walrus_pairing.wasm_operators.Items.{Types, Labels, Item, Names, Byte, Heap, ManyLabels, ManyValues}
+use Rattle.walrus_parsed_served.specs.walrus_parse_laws.walrus_pairing.wasm_operators.declared.block_type.BlockType.TheVariants as blocks
+use Rattle.walrus_parsed_served.specs.walrus_parse_laws.walrus_pairing.wasm_operators.declared.block_type.BlockType.{BlockType}
 use Rattle.wasm_inexact_modules.specs.Inexact.{InexactBlock, InexactItem, InexactOperator, InexactValues, InexactWord}
-use Rattle.walrus_parsed_served.specs.walrus_parsed_linked.walrus_pairing.wasm_operators.Names.{Renaming, renamed_operator}
+use Rattle.walrus_parsed_served.specs.walrus_parse_laws.walrus_pairing.wasm_operators.Names.{Renaming, renamed_operator}
 use Rattle.wasm_operators.specs.Ranges.{OperatorFits}
-use Rattle.walrus_parsed_served.specs.walrus_parsed_linked.walrus_parsed_items.walrus_named_bodies.walrus_file_bodies.walrus_items_into.walrus_module_env.walrus_body_parser.wasm_operators.Operators.{Seen}
-use Rattle.walrus_parsed_served.specs.walrus_parsed_linked.walrus_parsed_items.walrus_named_bodies.walrus_file_bodies.walrus_items_into.walrus_module_env.walrus_body_parser.wasm_operators.declared.op_code.OpCode.{OpCode}
-use Rattle.walrus_parsed_served.specs.walrus_parsed_linked.walrus_pairing.wasm_operators.wasm_ref_types.Reference.{reference as written_reference}
-use Rattle.walrus_parsed_served.specs.walrus_parsed_linked.walrus_pairing.wasm_operators.wasm_ref_types.declared.heap.HeapType.TheVariants as written
-use Rattle.walrus_parsed_served.specs.walrus_parsed_linked.walrus_pairing.wasm_operators.wasm_ref_types.declared.index.UnpackedIndex.TheVariants.{Module}
-use Rattle.walrus_parsed_served.specs.walrus_parsed_linked.walrus_pairing.wasm_operators.wasm_ref_types.declared.value.ValType.TheVariants as words
-use Rattle.walrus_parsed_served.specs.walrus_parsed_linked.walrus_pairing.wasm_operators.wasm_ref_types.declared.value.ValType.{ValType as WrittenValue}
+use Rattle.walrus_parsed_served.specs.walrus_parse_laws.walrus_named_bodies.walrus_file_bodies.walrus_items_into.walrus_module_env.walrus_body_parser.wasm_operators.Operators.{Seen}
+use Rattle.walrus_parsed_served.specs.walrus_parse_laws.walrus_named_bodies.walrus_file_bodies.walrus_items_into.walrus_module_env.walrus_body_parser.wasm_operators.declared.op_code.OpCode.{OpCode}
+use Rattle.walrus_parsed_served.specs.walrus_parse_laws.walrus_pairing.wasm_operators.wasm_ref_types.Reference.{reference as written_reference}
+use Rattle.walrus_parsed_served.specs.walrus_parse_laws.walrus_pairing.wasm_operators.wasm_ref_types.declared.heap.HeapType.TheVariants as written
+use Rattle.walrus_parsed_served.specs.walrus_parse_laws.walrus_pairing.wasm_operators.wasm_ref_types.declared.index.UnpackedIndex.TheVariants.{Module}
+use Rattle.walrus_parsed_served.specs.walrus_parse_laws.walrus_pairing.wasm_operators.wasm_ref_types.declared.value.ValType.TheVariants as words
+use Rattle.walrus_parsed_served.specs.walrus_parse_laws.walrus_pairing.wasm_operators.wasm_ref_types.declared.value.ValType.{ValType as WrittenValue}
 
 -- ---- plain instructions
 

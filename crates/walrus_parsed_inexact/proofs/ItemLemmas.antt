@@ -4,35 +4,35 @@ use Rattle.std.specs.List.{AllByRecursion, list_any}
 use Rattle.std.specs.Option.{option_map}
 use Rattle.std.specs.Prelude.{Bool, List, None, Option, Some, [], false, map, refl, slice_index_or, suc, zero, ℕ, ◌∷◌, ◌≡◌}
 use Rattle.walrus_parsed_served.specs.walrus_passes_laws.walrus_exact.Exact.{data_exact, element_exact, expr_exact, global_exact, heap_exact, held_exact, init_exact, op_exact, place_exact, ref_exact, table_exact, val_exact, value_exact}
-use Rattle.walrus_parsed_served.specs.walrus_parsed_linked.walrus_pairing.walrus_forms.Renaming.{renamed_ref}
-use Rattle.walrus_parsed_served.specs.walrus_parsed_linked.walrus_pairing.walrus_forms.declared.value.HeapType.TheVariants as heaps
-use Rattle.walrus_parsed_served.specs.walrus_parsed_linked.walrus_pairing.walrus_forms.declared.value.HeapType.{HeapType}
+use Rattle.walrus_parsed_served.specs.walrus_parse_laws.walrus_pairing.walrus_forms.Renaming.{renamed_ref}
+use Rattle.walrus_parsed_served.specs.walrus_parse_laws.walrus_pairing.walrus_forms.declared.value.HeapType.TheVariants as heaps
+use Rattle.walrus_parsed_served.specs.walrus_parse_laws.walrus_pairing.walrus_forms.declared.value.HeapType.{HeapType}
 use Rattle.walrus_marks.specs.walrus_instr.Constants.{ops_of}
 use Rattle.walrus_marks.specs.walrus_instr.declared.const_expr.ConstExpr.TheVariants as exprs
 use Rattle.walrus_marks.specs.walrus_instr.declared.const_expr.ConstExpr.{ConstExpr}
 use Rattle.walrus_marks.specs.walrus_instr.declared.const_expr.ConstOp.TheVariants as consts
 use Rattle.walrus_marks.specs.walrus_instr.declared.const_expr.ConstOp.{ConstOp}
-use Rattle.walrus_parsed_served.specs.walrus_parsed_linked.walrus_parsed_items.walrus_into_laws.Renamed.{by_types, retyped_element, retyped_expr, retyped_global, retyped_items, retyped_mode, retyped_origin, retyped_segment, retyped_table}
-use Rattle.walrus_parsed_served.specs.walrus_parsed_linked.walrus_parsed_items.walrus_named_bodies.walrus_file_bodies.walrus_items_into.walrus_module_bodies.walrus_body_trees.walrus_meaning.Meaning.{own_data_mode, own_element, own_element_mode, own_elements, own_global, own_segment, own_table, own_value_of}
-use Rattle.walrus_parsed_served.specs.walrus_parsed_linked.walrus_parsed_items.walrus_named_bodies.walrus_file_bodies.walrus_items_into.walrus_module_bodies.walrus_body_trees.walrus_meaning.Words.{const_seen, own_expr, own_heap}
-use Rattle.walrus_parsed_served.specs.walrus_parsed_linked.walrus_parsed_items.walrus_named_bodies.walrus_file_bodies.walrus_items_into.walrus_module_env.walrus_collections.walrus_module_items.declared.data.Data.{Data}
-use Rattle.walrus_parsed_served.specs.walrus_parsed_linked.walrus_parsed_items.walrus_named_bodies.walrus_file_bodies.walrus_items_into.walrus_module_env.walrus_collections.walrus_module_items.declared.data.DataKind.TheVariants as datas
-use Rattle.walrus_parsed_served.specs.walrus_parsed_linked.walrus_parsed_items.walrus_named_bodies.walrus_file_bodies.walrus_items_into.walrus_module_env.walrus_collections.walrus_module_items.declared.data.DataKind.{DataKind}
-use Rattle.walrus_parsed_served.specs.walrus_parsed_linked.walrus_parsed_items.walrus_named_bodies.walrus_file_bodies.walrus_items_into.walrus_module_env.walrus_collections.walrus_module_items.declared.element.Element.{Element}
-use Rattle.walrus_parsed_served.specs.walrus_parsed_linked.walrus_parsed_items.walrus_named_bodies.walrus_file_bodies.walrus_items_into.walrus_module_env.walrus_collections.walrus_module_items.declared.element.ElementItems.TheVariants as holds
-use Rattle.walrus_parsed_served.specs.walrus_parsed_linked.walrus_parsed_items.walrus_named_bodies.walrus_file_bodies.walrus_items_into.walrus_module_env.walrus_collections.walrus_module_items.declared.element.ElementItems.{ElementItems}
-use Rattle.walrus_parsed_served.specs.walrus_parsed_linked.walrus_parsed_items.walrus_named_bodies.walrus_file_bodies.walrus_items_into.walrus_module_env.walrus_collections.walrus_module_items.declared.element.ElementKind.TheVariants as elements
-use Rattle.walrus_parsed_served.specs.walrus_parsed_linked.walrus_parsed_items.walrus_named_bodies.walrus_file_bodies.walrus_items_into.walrus_module_env.walrus_collections.walrus_module_items.declared.element.ElementKind.{ElementKind}
-use Rattle.walrus_parsed_served.specs.walrus_parsed_linked.walrus_parsed_items.walrus_named_bodies.walrus_file_bodies.walrus_items_into.walrus_module_env.walrus_collections.walrus_module_items.declared.global.Global.{Global}
-use Rattle.walrus_parsed_served.specs.walrus_parsed_linked.walrus_parsed_items.walrus_named_bodies.walrus_file_bodies.walrus_items_into.walrus_module_env.walrus_collections.walrus_module_items.declared.global.GlobalKind.TheVariants as globals
-use Rattle.walrus_parsed_served.specs.walrus_parsed_linked.walrus_parsed_items.walrus_named_bodies.walrus_file_bodies.walrus_items_into.walrus_module_env.walrus_collections.walrus_module_items.declared.global.GlobalKind.{GlobalKind}
-use Rattle.walrus_parsed_served.specs.walrus_parsed_linked.walrus_parsed_items.walrus_named_bodies.walrus_file_bodies.walrus_items_into.walrus_module_env.walrus_collections.walrus_module_items.declared.table.Table.{Table}
+use Rattle.walrus_parsed_served.specs.walrus_parse_laws.Renamed.{by_types, retyped_element, retyped_expr, retyped_global, retyped_items, retyped_mode, retyped_origin, retyped_segment, retyped_table}
+use Rattle.walrus_parsed_served.specs.walrus_parse_laws.walrus_named_bodies.walrus_file_bodies.walrus_items_into.walrus_module_bodies.walrus_body_trees.walrus_meaning.Meaning.{own_data_mode, own_element, own_element_mode, own_elements, own_global, own_segment, own_table, own_value_of}
+use Rattle.walrus_parsed_served.specs.walrus_parse_laws.walrus_named_bodies.walrus_file_bodies.walrus_items_into.walrus_module_bodies.walrus_body_trees.walrus_meaning.Words.{const_seen, own_expr, own_heap}
+use Rattle.walrus_parsed_served.specs.walrus_parse_laws.walrus_named_bodies.walrus_file_bodies.walrus_items_into.walrus_module_env.walrus_collections.walrus_module_items.declared.data.Data.{Data}
+use Rattle.walrus_parsed_served.specs.walrus_parse_laws.walrus_named_bodies.walrus_file_bodies.walrus_items_into.walrus_module_env.walrus_collections.walrus_module_items.declared.data.DataKind.TheVariants as datas
+use Rattle.walrus_parsed_served.specs.walrus_parse_laws.walrus_named_bodies.walrus_file_bodies.walrus_items_into.walrus_module_env.walrus_collections.walrus_module_items.declared.data.DataKind.{DataKind}
+use Rattle.walrus_parsed_served.specs.walrus_parse_laws.walrus_named_bodies.walrus_file_bodies.walrus_items_into.walrus_module_env.walrus_collections.walrus_module_items.declared.element.Element.{Element}
+use Rattle.walrus_parsed_served.specs.walrus_parse_laws.walrus_named_bodies.walrus_file_bodies.walrus_items_into.walrus_module_env.walrus_collections.walrus_module_items.declared.element.ElementItems.TheVariants as holds
+use Rattle.walrus_parsed_served.specs.walrus_parse_laws.walrus_named_bodies.walrus_file_bodies.walrus_items_into.walrus_module_env.walrus_collections.walrus_module_items.declared.element.ElementItems.{ElementItems}
+use Rattle.walrus_parsed_served.specs.walrus_parse_laws.walrus_named_bodies.walrus_file_bodies.walrus_items_into.walrus_module_env.walrus_collections.walrus_module_items.declared.element.ElementKind.TheVariants as elements
+use Rattle.walrus_parsed_served.specs.walrus_parse_laws.walrus_named_bodies.walrus_file_bodies.walrus_items_into.walrus_module_env.walrus_collections.walrus_module_items.declared.element.ElementKind.{ElementKind}
+use Rattle.walrus_parsed_served.specs.walrus_parse_laws.walrus_named_bodies.walrus_file_bodies.walrus_items_into.walrus_module_env.walrus_collections.walrus_module_items.declared.global.Global.{Global}
+use Rattle.walrus_parsed_served.specs.walrus_parse_laws.walrus_named_bodies.walrus_file_bodies.walrus_items_into.walrus_module_env.walrus_collections.walrus_module_items.declared.global.GlobalKind.TheVariants as globals
+use Rattle.walrus_parsed_served.specs.walrus_parse_laws.walrus_named_bodies.walrus_file_bodies.walrus_items_into.walrus_module_env.walrus_collections.walrus_module_items.declared.global.GlobalKind.{GlobalKind}
+use Rattle.walrus_parsed_served.specs.walrus_parse_laws.walrus_named_bodies.walrus_file_bodies.walrus_items_into.walrus_module_env.walrus_collections.walrus_module_items.declared.table.Table.{Table}
 use Rattle.walrus_parsed_inexact.proofs.ValueLemmas.{any_false, heap_false, operator_renamed, or_false, ref_renamed, value_false, value_renamed}
 use Rattle.walrus_parsed_served.specs.walrus_passes_laws.walrus_refusals.Written.{HasNone}
-use Rattle.walrus_parsed_served.specs.walrus_parsed_linked.walrus_parsed_items.walrus_named_bodies.walrus_file_bodies.walrus_items_into.wasm_sections.wasm_grammar.Modules as grammar
+use Rattle.walrus_parsed_served.specs.walrus_parse_laws.walrus_named_bodies.walrus_file_bodies.walrus_items_into.wasm_sections.wasm_grammar.Modules as grammar
 use Rattle.wasm_inexact_modules.specs.Inexact.{InexactElements, InexactExpr, InexactInit, InexactMode, InexactOperator, InexactOrigin, InexactRef, InexactValue, InexactWritten}
-use Rattle.walrus_parsed_served.specs.walrus_parsed_linked.walrus_parsed_items.walrus_named_bodies.walrus_file_bodies.walrus_items_into.wasm_module_rules.Linked.{Each}
-use Rattle.walrus_parsed_served.specs.walrus_parsed_linked.walrus_pairing.wasm_operators.Names.{renamed_operator}
+use Rattle.walrus_parsed_served.specs.walrus_parse_laws.walrus_named_bodies.walrus_file_bodies.walrus_items_into.wasm_module_rules.Linked.{Each}
+use Rattle.walrus_parsed_served.specs.walrus_parse_laws.walrus_pairing.wasm_operators.Names.{renamed_operator}
 
 -- ---- slots
 

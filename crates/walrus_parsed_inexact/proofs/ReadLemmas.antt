@@ -4,64 +4,63 @@ use Rattle.std.specs.List.{flat_map}
 use Rattle.std.specs.Option.{option_map}
 use Rattle.std.specs.Prelude.{List, MatchOption, None, Option, Some, [], length, map, refl, slice_get, slice_index_or, suc, zero, ℕ, ◌∷◌, ◌≡◌}
 use Rattle.walrus_parsed_served.specs.walrus_sent_laws.walrus_arena.Arena.{item_at}
-use Rattle.walrus_parsed_served.specs.walrus_parsed_linked.walrus_parsed_items.walrus_named_bodies.walrus_file_bodies.walrus_items_into.walrus_module_env.walrus_handler_types.walrus_tree.walrus_builder.Functions.{seqs_of}
+use Rattle.walrus_parsed_served.specs.walrus_parse_laws.walrus_named_bodies.walrus_file_bodies.walrus_items_into.walrus_module_env.walrus_handler_types.walrus_tree.walrus_builder.Functions.{seqs_of}
 use Rattle.walrus_parsed_served.specs.walrus_passes_laws.walrus_exact.Exact.{data_exact, element_exact, global_exact, table_exact, val_exact}
-use Rattle.walrus_parsed_served.proofs.walrus_parsed_linked.walrus_parsed_bodies.walrus_file_bodies.StopLemmas.{count_in}
-use Rattle.walrus_parsed_served.specs.walrus_parsed_linked.walrus_parsed_items.walrus_named_bodies.walrus_file_bodies.Read.{Waits, grows_none, steps_grow}
-use Rattle.walrus_parsed_served.specs.walrus_parsed_linked.walrus_parsed_items.walrus_named_bodies.walrus_file_bodies.Ready.{bodies_in}
-use Rattle.walrus_parsed_served.specs.walrus_parsed_linked.walrus_pairing.walrus_forms.Renaming.{at}
+use Rattle.walrus_parsed_served.proofs.walrus_parse_laws.walrus_file_bodies.StopLemmas.{count_in}
+use Rattle.walrus_parsed_served.specs.walrus_parse_laws.walrus_named_bodies.walrus_file_bodies.Read.{Waits, grows_none, steps_grow}
+use Rattle.walrus_parsed_served.specs.walrus_parse_laws.walrus_named_bodies.walrus_file_bodies.Ready.{bodies_in}
+use Rattle.walrus_parsed_served.specs.walrus_parse_laws.walrus_pairing.walrus_forms.Renaming.{at}
 use Rattle.walrus_function_types.specs.Growth.{EntryTypesGrow, FoundTypesStay, TablesGrowOn}
-use Rattle.walrus_parsed_served.specs.walrus_parsed_linked.walrus_parsed_items.walrus_named_bodies.walrus_file_bodies.walrus_items_into.walrus_functions_into.Functions.{kind_of}
-use Rattle.walrus_parsed_served.specs.walrus_parsed_linked.walrus_parsed_items.walrus_named_bodies.walrus_file_bodies.walrus_items_into.walrus_functions_into.declared.bodies.FunctionBody.{FunctionBody}
-use Rattle.walrus_parsed_served.specs.walrus_parsed_linked.walrus_parsed_items.walrus_into_laws.Meaning.{type_id}
-use Rattle.walrus_parsed_served.specs.walrus_parsed_linked.walrus_parsed_items.walrus_into_laws.Renamed.{retyped_element, retyped_global, retyped_segment, retyped_table}
-use Rattle.walrus_parsed_served.specs.walrus_parsed_linked.walrus_parsed_items.walrus_named_bodies.walrus_item_names.Holder.{Holder}
-use Rattle.walrus_parsed_served.specs.walrus_parsed_linked.walrus_parsed_items.walrus_named_bodies.walrus_item_names.Names.{bare_function, bare_local, bare_type}
-use Rattle.walrus_parsed_served.specs.walrus_parsed_linked.walrus_pairing.walrus_items.declared.local.Local.{Local}
-use Rattle.walrus_parsed_served.specs.walrus_parsed_linked.walrus_parsed_items.walrus_named_bodies.walrus_file_bodies.walrus_items_into.Laws.{FilledFunctionsStand, FilledModulesAreFiled}
-use Rattle.walrus_parsed_served.specs.walrus_parsed_linked.walrus_parsed_items.walrus_named_bodies.walrus_file_bodies.walrus_items_into.walrus_functions_into.walrus_types_into.walrus_known_sections.Items.{chunk_of}
-use Rattle.walrus_parsed_served.specs.walrus_parsed_linked.walrus_parsed_items.walrus_named_bodies.walrus_file_bodies.walrus_items_into.walrus_functions_into.walrus_types_into.walrus_known_sections.State.{state_of}
-use Rattle.walrus_parsed_served.specs.walrus_parsed_linked.walrus_parsed_items.walrus_named_bodies.walrus_file_bodies.walrus_items_into.walrus_functions_into.walrus_types_into.walrus_known_sections.declared.sections.Sections.{Sections}
-use Rattle.walrus_parsed_served.specs.walrus_parsed_linked.walrus_parsed_items.walrus_named_bodies.walrus_file_bodies.walrus_items_into.walrus_module_env.walrus_collections.walrus_local_function.declared.local_function.LocalFunction.{LocalFunction}
-use Rattle.walrus_parsed_served.specs.walrus_parsed_linked.walrus_parsed_items.walrus_named_bodies.walrus_file_bodies.walrus_items_into.walrus_module_bodies.walrus_body_trees.walrus_meaning.Meaning.{means, own_element, own_global, own_segment, own_table}
+use Rattle.walrus_parsed_served.specs.walrus_parse_laws.walrus_named_bodies.walrus_file_bodies.walrus_items_into.walrus_functions_into.Functions.{kind_of}
+use Rattle.walrus_parsed_served.specs.walrus_parse_laws.walrus_named_bodies.walrus_file_bodies.walrus_items_into.walrus_functions_into.declared.bodies.FunctionBody.{FunctionBody}
+use Rattle.walrus_parsed_served.specs.walrus_parse_laws.Meaning.{type_id}
+use Rattle.walrus_parsed_served.specs.walrus_parse_laws.Renamed.{retyped_element, retyped_global, retyped_segment, retyped_table}
+use Rattle.walrus_parsed_served.specs.walrus_parse_laws.walrus_named_bodies.walrus_item_names.Holder.{Holder}
+use Rattle.walrus_parsed_served.specs.walrus_parse_laws.walrus_named_bodies.walrus_item_names.Names.{bare_function, bare_local, bare_type}
+use Rattle.walrus_parsed_served.specs.walrus_parse_laws.walrus_pairing.walrus_items.declared.local.Local.{Local}
+use Rattle.walrus_parsed_served.specs.walrus_parse_laws.walrus_named_bodies.walrus_file_bodies.walrus_items_into.Laws.{FilledFunctionsStand, FilledModulesAreFiled}
+use Rattle.walrus_parsed_served.specs.walrus_parse_laws.walrus_named_bodies.walrus_file_bodies.walrus_items_into.walrus_functions_into.walrus_types_into.walrus_known_sections.Items.{chunk_of}
+use Rattle.walrus_parsed_served.specs.walrus_parse_laws.walrus_named_bodies.walrus_file_bodies.walrus_items_into.walrus_functions_into.walrus_types_into.walrus_known_sections.State.{state_of}
+use Rattle.walrus_parsed_served.specs.walrus_parse_laws.walrus_named_bodies.walrus_file_bodies.walrus_items_into.walrus_functions_into.walrus_types_into.walrus_known_sections.declared.sections.Sections.{Sections}
+use Rattle.walrus_parsed_served.specs.walrus_parse_laws.walrus_named_bodies.walrus_file_bodies.walrus_items_into.walrus_module_env.walrus_collections.walrus_local_function.declared.local_function.LocalFunction.{LocalFunction}
+use Rattle.walrus_parsed_served.specs.walrus_parse_laws.walrus_named_bodies.walrus_file_bodies.walrus_items_into.walrus_module_bodies.walrus_body_trees.walrus_meaning.Meaning.{means, own_element, own_global, own_segment, own_table}
 use Rattle.walrus_parsed_served.specs.walrus_passes_laws.walrus_references.walrus_module.Parts.{Module, parts}
-use Rattle.walrus_parsed_served.specs.walrus_parsed_linked.walrus_parsed_items.walrus_named_bodies.walrus_file_bodies.walrus_module_bodies.Steps.{State, state}
-use Rattle.walrus_parsed_served.specs.walrus_parsed_linked.walrus_parsed_items.walrus_named_bodies.walrus_file_bodies.walrus_items_into.walrus_module_env.Parsed.{PicksAreSeen}
-use Rattle.walrus_parsed_served.specs.walrus_parsed_linked.walrus_parsed_items.walrus_named_bodies.walrus_file_bodies.walrus_items_into.walrus_module_env.walrus_collections.walrus_module_items.declared.data.Data.{Data}
-use Rattle.walrus_parsed_served.specs.walrus_parsed_linked.walrus_parsed_items.walrus_named_bodies.walrus_file_bodies.walrus_items_into.walrus_module_env.walrus_collections.walrus_module_items.declared.function.Function.{Function}
-use Rattle.walrus_parsed_served.specs.walrus_parsed_linked.walrus_parsed_items.walrus_named_bodies.walrus_file_bodies.walrus_items_into.walrus_module_env.walrus_collections.walrus_module_items.declared.function.FunctionKind.TheVariants as kinds
-use Rattle.walrus_parsed_served.specs.walrus_parsed_linked.walrus_parsed_items.walrus_named_bodies.walrus_file_bodies.walrus_items_into.walrus_module_env.walrus_collections.walrus_module_items.declared.function.FunctionKind.{FunctionKind}
-use Rattle.walrus_parsed_served.specs.walrus_parsed_linked.walrus_pairing.Laws.{OperatorComesBack}
-use Rattle.walrus_parsed_served.specs.walrus_parsed_linked.walrus_parsed_items.walrus_named_bodies.Parsed.{read_features}
-use Rattle.walrus_parsed_served.proofs.walrus_parsed_linked.walrus_parsed_bodies.SlotLemmas.{read_kind}
-use Rattle.walrus_parsed_served.proofs.walrus_parsed_linked.walrus_parsed_bodies.StepLemmas.{steps_have}
-use Rattle.walrus_parsed_served.proofs.walrus_parsed_linked.walrus_parsed_bodies.WholeLemmas.{bare_same, bodies_are_due, bodies_lie, kind_at}
-use Rattle.walrus_parsed_served.specs.walrus_parsed_groups.Files.{ReadModulesHaveHandlers}
-use Rattle.walrus_parsed_served.specs.walrus_parsed_groups.Files.{bodies_handle}
-use Rattle.walrus_parsed_served.specs.walrus_parsed_groups.Groups.{handlers_in}
-use Rattle.walrus_parsed_served.specs.walrus_parsed_groups.Handlers.{signatures}
+use Rattle.walrus_parsed_served.specs.walrus_parse_laws.walrus_named_bodies.walrus_file_bodies.walrus_module_bodies.Steps.{State, state}
+use Rattle.walrus_parsed_served.specs.walrus_parse_laws.walrus_named_bodies.walrus_file_bodies.walrus_items_into.walrus_module_env.Parsed.{PicksAreSeen}
+use Rattle.walrus_parsed_served.specs.walrus_parse_laws.walrus_named_bodies.walrus_file_bodies.walrus_items_into.walrus_module_env.walrus_collections.walrus_module_items.declared.data.Data.{Data}
+use Rattle.walrus_parsed_served.specs.walrus_parse_laws.walrus_named_bodies.walrus_file_bodies.walrus_items_into.walrus_module_env.walrus_collections.walrus_module_items.declared.function.Function.{Function}
+use Rattle.walrus_parsed_served.specs.walrus_parse_laws.walrus_named_bodies.walrus_file_bodies.walrus_items_into.walrus_module_env.walrus_collections.walrus_module_items.declared.function.FunctionKind.TheVariants as kinds
+use Rattle.walrus_parsed_served.specs.walrus_parse_laws.walrus_named_bodies.walrus_file_bodies.walrus_items_into.walrus_module_env.walrus_collections.walrus_module_items.declared.function.FunctionKind.{FunctionKind}
+use Rattle.walrus_parsed_served.specs.walrus_parse_laws.walrus_pairing.Laws.{OperatorComesBack}
+use Rattle.walrus_parsed_served.specs.walrus_parse_laws.walrus_named_bodies.Parsed.{read_features}
+use Rattle.walrus_parsed_served.proofs.walrus_parse_laws.BodiesSlotLemmas.{read_kind}
+use Rattle.walrus_parsed_served.proofs.walrus_parse_laws.BodiesStepLemmas.{steps_have}
+use Rattle.walrus_parsed_served.proofs.walrus_parse_laws.WholeLemmas.{bare_same, bodies_are_due, bodies_lie, kind_at}
+use Rattle.walrus_parsed_served.specs.walrus_parse_laws.Files.{ReadModulesHaveHandlers, bodies_handle}
+use Rattle.walrus_parsed_served.specs.walrus_parse_laws.Groups.{handlers_in}
+use Rattle.walrus_parsed_served.specs.walrus_parse_laws.Handlers.{signatures}
 use Rattle.walrus_parsed_inexact.proofs.ItemLemmas.{data_false, element_false, global_false, none_in, table_false}
-use Rattle.walrus_parsed_served.proofs.walrus_parsed_linked.walrus_body_walks.walrus_body_trees.Bodies.{AreSpelled}
+use Rattle.walrus_parsed_served.proofs.walrus_parse_laws.walrus_body_walks.walrus_body_trees.Bodies.{AreSpelled}
 use Rattle.walrus_parsed_inexact.proofs.StepLemmas.{InexactLocals, step_body, steps_locals}
 use Rattle.walrus_parsed_inexact.proofs.TextLemmas.{InexactSignatures, codes_so, handled_so, sent_so}
 use Rattle.walrus_parsed_inexact.proofs.TypeLemmas.{IsPlain, all_fit, file_plain, same_caught, same_results, steps_plain, type_none}
 use Rattle.walrus_parsed_inexact.proofs.ValueLemmas.{some_is, value_false}
 use Rattle.walrus_parsed_inexact.specs.Passed.{IsPassed, ReadModulesHaveNoExact, ReadModulesPass}
-use Rattle.walrus_parsed_served.specs.walrus_parsed_linked.walrus_parsed_items.Items.{HasItems, ReadModulesHaveItems, file_of}
+use Rattle.walrus_parsed_served.specs.walrus_parse_laws.Items.{HasItems, ReadModulesHaveItems, file_of}
 use Rattle.walrus_parsed_served.specs.Served.{IsServed, ReadModulesAreServed}
 use Rattle.walrus_parsed_served.specs.walrus_passes_laws.walrus_refusals.Written.{BodyHasNone, HasNoExact, HasNoExactIn, HasNone, KindHasNone}
-use Rattle.walrus_parsed_served.specs.walrus_parsed_linked.walrus_parsed_items.walrus_named_bodies.walrus_file_bodies.walrus_items_into.walrus_tables_into.walrus_sections.walrus_roots.declared.item.Item.{Item}
-use Rattle.walrus_parsed_served.specs.walrus_parsed_linked.walrus_parsed_items.walrus_named_bodies.walrus_file_bodies.walrus_items_into.walrus_tables_into.walrus_sections_into.Becomes.{look_of}
+use Rattle.walrus_parsed_served.specs.walrus_parse_laws.walrus_named_bodies.walrus_file_bodies.walrus_items_into.walrus_tables_into.walrus_sections.walrus_roots.declared.item.Item.{Item}
+use Rattle.walrus_parsed_served.specs.walrus_parse_laws.walrus_named_bodies.walrus_file_bodies.walrus_items_into.walrus_tables_into.walrus_sections_into.Becomes.{look_of}
 use Rattle.walrus_marks.specs.walrus_instr.walrus_types.Table.{Table}
-use Rattle.walrus_parsed_served.specs.walrus_parsed_linked.walrus_parsed_items.walrus_named_bodies.walrus_file_bodies.walrus_items_into.walrus_module_env.walrus_handler_types.walrus_body_steps.wasm_body_grammar.Bodies.{body}
-use Rattle.walrus_parsed_served.specs.walrus_parsed_linked.walrus_parsed_items.walrus_named_bodies.walrus_file_bodies.walrus_items_into.walrus_module_env.walrus_handler_types.walrus_body_steps.wasm_body_grammar.Rules.{Around}
-use Rattle.walrus_parsed_served.specs.walrus_parsed_linked.walrus_parsed_items.walrus_named_bodies.walrus_file_bodies.walrus_items_into.walrus_module_env.walrus_body_parser.wasm_operators.wasm_features.declared.WasmFeatures.{WasmFeatures}
-use Rattle.walrus_parsed_served.specs.walrus_parsed_linked.walrus_parsed_items.walrus_named_bodies.walrus_file_bodies.walrus_items_into.wasm_sections.wasm_grammar.wasm_formats.declared.fault.Space.TheVariants as spaces
-use Rattle.walrus_parsed_served.specs.walrus_parsed_linked.walrus_parsed_items.walrus_named_bodies.walrus_file_bodies.walrus_items_into.wasm_sections.wasm_grammar.wasm_formats.declared.fault.Space.{Space}
-use Rattle.walrus_parsed_served.specs.walrus_parsed_linked.walrus_parsed_items.walrus_named_bodies.walrus_file_bodies.walrus_items_into.wasm_sections.wasm_grammar.Modules as grammar
+use Rattle.walrus_parsed_served.specs.walrus_parse_laws.walrus_named_bodies.walrus_file_bodies.walrus_items_into.walrus_module_env.walrus_handler_types.walrus_body_steps.wasm_body_grammar.Bodies.{body}
+use Rattle.walrus_parsed_served.specs.walrus_parse_laws.walrus_named_bodies.walrus_file_bodies.walrus_items_into.walrus_module_env.walrus_handler_types.walrus_body_steps.wasm_body_grammar.Rules.{Around}
+use Rattle.walrus_parsed_served.specs.walrus_parse_laws.walrus_named_bodies.walrus_file_bodies.walrus_items_into.walrus_module_env.walrus_body_parser.wasm_operators.wasm_features.declared.WasmFeatures.{WasmFeatures}
+use Rattle.walrus_parsed_served.specs.walrus_parse_laws.walrus_named_bodies.walrus_file_bodies.walrus_items_into.wasm_sections.wasm_grammar.wasm_formats.declared.fault.Space.TheVariants as spaces
+use Rattle.walrus_parsed_served.specs.walrus_parse_laws.walrus_named_bodies.walrus_file_bodies.walrus_items_into.wasm_sections.wasm_grammar.wasm_formats.declared.fault.Space.{Space}
+use Rattle.walrus_parsed_served.specs.walrus_parse_laws.walrus_named_bodies.walrus_file_bodies.walrus_items_into.wasm_sections.wasm_grammar.Modules as grammar
 use Rattle.wasm_inexact_modules.specs.Inexact.{InexactElements, InexactInit, InexactMode, InexactOrigin, InexactRef, InexactValue, IsInexact, ReadBodiesAreInexact, ReadSectionsAreInexact}
-use Rattle.walrus_parsed_served.specs.walrus_parsed_linked.walrus_parsed_items.walrus_named_bodies.walrus_file_bodies.walrus_items_into.wasm_module_rules.wasm_modules.Modules.{around, codes, module_of}
-use Rattle.walrus_parsed_served.specs.walrus_parsed_linked.walrus_parsed_items.walrus_named_bodies.walrus_file_bodies.walrus_items_into.wasm_sections.Within.{ChunksFit}
+use Rattle.walrus_parsed_served.specs.walrus_parse_laws.walrus_named_bodies.walrus_file_bodies.walrus_items_into.wasm_module_rules.wasm_modules.Modules.{around, codes, module_of}
+use Rattle.walrus_parsed_served.specs.walrus_parse_laws.walrus_named_bodies.walrus_file_bodies.walrus_items_into.wasm_sections.Within.{ChunksFit}
 
 -- a function of the file has no body by itself
 no_body : (ty : ℕ) (import : Option ℕ) (kind : FunctionKind) → kind ≡ kind_of ty import → KindHasNone kind

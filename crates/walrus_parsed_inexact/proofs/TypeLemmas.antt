@@ -3,33 +3,33 @@ use Rattle.std.proofs.Common.{ap, subst, sym, ◌∙◌}
 use Rattle.std.specs.List.{AllByRecursion, flat_map}
 use Rattle.std.specs.Option.{option_and_then, option_map}
 use Rattle.std.specs.Prelude.{Bool, List, MatchOption, None, Option, Some, [], false, map, refl, slice_index_or, suc, true, zero, ℕ, ◌++◌, ◌+◌, ◌∷◌, ◌≡◌}
-use Rattle.walrus_parsed_served.specs.walrus_parsed_linked.walrus_parsed_items.walrus_named_bodies.walrus_file_bodies.walrus_items_into.walrus_module_env.walrus_handler_types.walrus_tree.walrus_builder.Built.{Seq, contents, seq_of}
+use Rattle.walrus_parsed_served.specs.walrus_parse_laws.walrus_named_bodies.walrus_file_bodies.walrus_items_into.walrus_module_env.walrus_handler_types.walrus_tree.walrus_builder.Built.{Seq, contents, seq_of}
 use Rattle.walrus_parsed_served.specs.walrus_passes_laws.walrus_exact.Exact.{form_exact}
-use Rattle.walrus_parsed_served.specs.walrus_parsed_linked.walrus_parsed_items.walrus_named_bodies.walrus_file_bodies.Read.{steps_grow}
-use Rattle.walrus_parsed_served.specs.walrus_parsed_linked.walrus_pairing.walrus_forms.Forms.{ArrayForm, Form, FunctionForm, StructForm}
-use Rattle.walrus_parsed_served.specs.walrus_parsed_linked.walrus_pairing.walrus_forms.Kinds.{Kind, entry_kind, function_kind}
-use Rattle.walrus_parsed_served.specs.walrus_parsed_linked.walrus_pairing.walrus_forms.Records.{TypeGroup}
-use Rattle.walrus_parsed_served.specs.walrus_parsed_linked.walrus_pairing.walrus_forms.Renaming.{at, renamed_kind}
-use Rattle.walrus_parsed_served.specs.walrus_parsed_linked.walrus_pairing.walrus_forms.declared.value.ValType.{ValType}
+use Rattle.walrus_parsed_served.specs.walrus_parse_laws.walrus_named_bodies.walrus_file_bodies.Read.{steps_grow}
+use Rattle.walrus_parsed_served.specs.walrus_parse_laws.walrus_pairing.walrus_forms.Forms.{ArrayForm, Form, FunctionForm, StructForm}
+use Rattle.walrus_parsed_served.specs.walrus_parse_laws.walrus_pairing.walrus_forms.Kinds.{Kind, entry_kind, function_kind}
+use Rattle.walrus_parsed_served.specs.walrus_parse_laws.walrus_pairing.walrus_forms.Records.{TypeGroup}
+use Rattle.walrus_parsed_served.specs.walrus_parse_laws.walrus_pairing.walrus_forms.Renaming.{at, renamed_kind}
+use Rattle.walrus_parsed_served.specs.walrus_parse_laws.walrus_pairing.walrus_forms.declared.value.ValType.{ValType}
 use Rattle.walrus_function_types.proofs.GrowthLemmas.{grows_on}
 use Rattle.walrus_function_types.specs.FunctionTypes.{form_params, form_results, params_at, results_at}
 use Rattle.walrus_function_types.specs.Growth.{Grows}
-use Rattle.walrus_parsed_served.specs.walrus_parsed_linked.walrus_parsed_items.walrus_named_bodies.walrus_file_bodies.walrus_items_into.walrus_functions_into.declared.bodies.FunctionBody.{FunctionBody}
-use Rattle.walrus_parsed_served.specs.walrus_parsed_linked.walrus_parsed_items.walrus_named_bodies.walrus_file_bodies.walrus_items_into.walrus_module_env.walrus_handler_types.walrus_handler_laws.Handlers.{told_by, tree_ids}
-use Rattle.walrus_parsed_served.specs.walrus_parsed_linked.walrus_parsed_items.walrus_named_bodies.walrus_file_bodies.walrus_items_into.walrus_module_env.walrus_handler_types.walrus_handler_laws.declared.handler.Handler.{Handler}
-use Rattle.walrus_parsed_served.proofs.walrus_parsed_linked.walrus_named_bodies.walrus_handler_types.Growing.{at_grows, function_results_grow, given_types_grow, params_grow}
-use Rattle.walrus_parsed_served.specs.walrus_parsed_linked.walrus_parsed_items.walrus_named_bodies.walrus_file_bodies.walrus_items_into.walrus_module_env.walrus_handler_types.Giving.{Finds, FindsIf, Gives, GivesAt, block_results, caught, tree_handlers}
+use Rattle.walrus_parsed_served.specs.walrus_parse_laws.walrus_named_bodies.walrus_file_bodies.walrus_items_into.walrus_functions_into.declared.bodies.FunctionBody.{FunctionBody}
+use Rattle.walrus_parsed_served.specs.walrus_parse_laws.walrus_named_bodies.walrus_file_bodies.walrus_items_into.walrus_module_env.walrus_handler_types.walrus_handler_laws.Handlers.{told_by, tree_ids}
+use Rattle.walrus_parsed_served.specs.walrus_parse_laws.walrus_named_bodies.walrus_file_bodies.walrus_items_into.walrus_module_env.walrus_handler_types.walrus_handler_laws.declared.handler.Handler.{Handler}
+use Rattle.walrus_parsed_served.proofs.walrus_parse_laws.walrus_named_bodies.walrus_handler_types.Growing.{at_grows, function_results_grow, given_types_grow, params_grow}
+use Rattle.walrus_parsed_served.specs.walrus_parse_laws.walrus_named_bodies.walrus_file_bodies.walrus_items_into.walrus_module_env.walrus_handler_types.Giving.{Finds, FindsIf, Gives, GivesAt, block_results, caught, tree_handlers}
 use Rattle.walrus_marks.specs.walrus_instr.BlockTypes.{Makes, picked, short_form}
 use Rattle.walrus_marks.specs.walrus_instr.declared.seq.InstrSeqType.TheVariants.{Simple, MultiValue}
 use Rattle.walrus_marks.specs.walrus_instr.declared.seq.InstrSeqType.{InstrSeqType}
-use Rattle.walrus_parsed_served.specs.walrus_parsed_linked.walrus_parsed_items.walrus_named_bodies.walrus_item_names.Names.{bare_type}
-use Rattle.walrus_parsed_served.specs.walrus_parsed_linked.walrus_parsed_items.walrus_named_bodies.walrus_file_bodies.walrus_module_bodies.Steps.{State, Steps}
-use Rattle.walrus_parsed_served.specs.walrus_parsed_linked.walrus_parsed_items.walrus_named_bodies.walrus_file_bodies.walrus_module_bodies.declared.file.FileEnv.{FileEnv}
-use Rattle.walrus_parsed_served.specs.walrus_parsed_linked.walrus_parsed_items.walrus_named_bodies.walrus_file_bodies.walrus_items_into.walrus_module_env.Env.{tag_type_at}
-use Rattle.walrus_parsed_served.specs.walrus_parsed_linked.walrus_parsed_items.walrus_named_bodies.walrus_file_bodies.walrus_items_into.walrus_module_env.walrus_collections.walrus_module_items.Functions.{type_of}
-use Rattle.walrus_parsed_served.proofs.walrus_parsed_linked.walrus_parsed_bodies.WholeLemmas.{bare_same}
-use Rattle.walrus_parsed_served.specs.walrus_parsed_groups.Groups.{handlers_in}
-use Rattle.walrus_parsed_served.specs.walrus_parsed_groups.Handlers.{signature_of, signatures}
+use Rattle.walrus_parsed_served.specs.walrus_parse_laws.walrus_named_bodies.walrus_item_names.Names.{bare_type}
+use Rattle.walrus_parsed_served.specs.walrus_parse_laws.walrus_named_bodies.walrus_file_bodies.walrus_module_bodies.Steps.{State, Steps}
+use Rattle.walrus_parsed_served.specs.walrus_parse_laws.walrus_named_bodies.walrus_file_bodies.walrus_module_bodies.declared.file.FileEnv.{FileEnv}
+use Rattle.walrus_parsed_served.specs.walrus_parse_laws.walrus_named_bodies.walrus_file_bodies.walrus_items_into.walrus_module_env.Env.{tag_type_at}
+use Rattle.walrus_parsed_served.specs.walrus_parse_laws.walrus_named_bodies.walrus_file_bodies.walrus_items_into.walrus_module_env.walrus_collections.walrus_module_items.Functions.{type_of}
+use Rattle.walrus_parsed_served.proofs.walrus_parse_laws.WholeLemmas.{bare_same}
+use Rattle.walrus_parsed_served.specs.walrus_parse_laws.Groups.{handlers_in}
+use Rattle.walrus_parsed_served.specs.walrus_parse_laws.Handlers.{signature_of, signatures}
 use Rattle.walrus_parsed_inexact.proofs.TextLemmas.{InexactSignature, InexactSignatures}
 use Rattle.walrus_parsed_inexact.proofs.ValueLemmas.{form_false, form_renamed, some_is}
 use Rattle.walrus_parsed_served.specs.walrus_passes_laws.walrus_refusals.Written.{HasNone}
@@ -37,8 +37,8 @@ use Rattle.walrus_marks.specs.walrus_instr.walrus_types.Groups.{new_items}
 use Rattle.walrus_marks.specs.walrus_instr.walrus_types.Items.{Item}
 use Rattle.walrus_marks.specs.walrus_instr.walrus_types.Parsing.{Parsed, added, known_ids, merged, parsed, parsed_group, unparsed, with_group}
 use Rattle.walrus_marks.specs.walrus_instr.walrus_types.Table.{Adds, Merges, Table, equal_type, next_id, type_at}
-use Rattle.walrus_parsed_served.specs.walrus_parsed_linked.walrus_parsed_items.walrus_named_bodies.walrus_file_bodies.walrus_items_into.walrus_functions_into.walrus_types_into.Into.{no_types}
-use Rattle.walrus_parsed_served.specs.walrus_parsed_linked.walrus_parsed_items.walrus_named_bodies.walrus_file_bodies.walrus_items_into.walrus_module_env.walrus_body_parser.wasm_operators.wasm_features.declared.WasmFeatures.{WasmFeatures}
+use Rattle.walrus_parsed_served.specs.walrus_parse_laws.walrus_named_bodies.walrus_file_bodies.walrus_items_into.walrus_functions_into.walrus_types_into.Into.{no_types}
+use Rattle.walrus_parsed_served.specs.walrus_parse_laws.walrus_named_bodies.walrus_file_bodies.walrus_items_into.walrus_module_env.walrus_body_parser.wasm_operators.wasm_features.declared.WasmFeatures.{WasmFeatures}
 use Rattle.wasm_inexact_modules.specs.Inexact.{InexactForm, InexactGroups, InexactKinds, InexactValues}
 
 -- each type of the table is inexact

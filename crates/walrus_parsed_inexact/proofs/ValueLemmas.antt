@@ -2,33 +2,32 @@
 use Rattle.std.proofs.Common.{subst}
 use Rattle.std.specs.List.{AllByRecursion, list_any}
 use Rattle.std.specs.Prelude.{Bool, Err, List, None, Ok, Option, Some, [], false, map, refl, true, ℕ, ◌||◌, ◌∷◌, ◌≡◌}
-use Rattle.walrus_parsed_served.specs.walrus_passes_laws.walrus_exact.Exact.{block_exact}
-use Rattle.walrus_parsed_served.specs.walrus_passes_laws.walrus_exact.Exact.{field_exact, form_exact, heap_exact, val_exact}
-use Rattle.walrus_parsed_served.specs.walrus_parsed_linked.walrus_pairing.walrus_forms.Forms.{ArrayForm, Form, FunctionForm, StructForm}
-use Rattle.walrus_parsed_served.specs.walrus_parsed_linked.walrus_pairing.walrus_forms.Renaming.{renamed_field, renamed_form, renamed_heap, renamed_ref, renamed_storage, renamed_value}
-use Rattle.walrus_parsed_served.specs.walrus_parsed_linked.walrus_pairing.walrus_forms.Values.{unpacked}
-use Rattle.walrus_parsed_served.specs.walrus_parsed_linked.walrus_pairing.walrus_forms.declared.value.AbstractHeapType.{AbstractHeapType}
-use Rattle.walrus_parsed_served.specs.walrus_parsed_linked.walrus_pairing.walrus_forms.declared.value.FieldType.{FieldType}
-use Rattle.walrus_parsed_served.specs.walrus_parsed_linked.walrus_pairing.walrus_forms.declared.value.HeapType.TheVariants as heaps
-use Rattle.walrus_parsed_served.specs.walrus_parsed_linked.walrus_pairing.walrus_forms.declared.value.HeapType.{HeapType}
-use Rattle.walrus_parsed_served.specs.walrus_parsed_linked.walrus_pairing.walrus_forms.declared.value.RefType.{RefType}
-use Rattle.walrus_parsed_served.specs.walrus_parsed_linked.walrus_pairing.walrus_forms.declared.value.StorageType.TheVariants as storages
-use Rattle.walrus_parsed_served.specs.walrus_parsed_linked.walrus_pairing.walrus_forms.declared.value.StorageType.{StorageType}
-use Rattle.walrus_parsed_served.specs.walrus_parsed_linked.walrus_pairing.walrus_forms.declared.value.ValType.TheVariants as values
-use Rattle.walrus_parsed_served.specs.walrus_parsed_linked.walrus_pairing.walrus_forms.declared.value.ValType.{ValType}
+use Rattle.walrus_parsed_served.specs.walrus_passes_laws.walrus_exact.Exact.{block_exact, field_exact, form_exact, heap_exact, val_exact}
+use Rattle.walrus_parsed_served.specs.walrus_parse_laws.walrus_pairing.walrus_forms.Forms.{ArrayForm, Form, FunctionForm, StructForm}
+use Rattle.walrus_parsed_served.specs.walrus_parse_laws.walrus_pairing.walrus_forms.Renaming.{renamed_field, renamed_form, renamed_heap, renamed_ref, renamed_storage, renamed_value}
+use Rattle.walrus_parsed_served.specs.walrus_parse_laws.walrus_pairing.walrus_forms.Values.{unpacked}
+use Rattle.walrus_parsed_served.specs.walrus_parse_laws.walrus_pairing.walrus_forms.declared.value.AbstractHeapType.{AbstractHeapType}
+use Rattle.walrus_parsed_served.specs.walrus_parse_laws.walrus_pairing.walrus_forms.declared.value.FieldType.{FieldType}
+use Rattle.walrus_parsed_served.specs.walrus_parse_laws.walrus_pairing.walrus_forms.declared.value.HeapType.TheVariants as heaps
+use Rattle.walrus_parsed_served.specs.walrus_parse_laws.walrus_pairing.walrus_forms.declared.value.HeapType.{HeapType}
+use Rattle.walrus_parsed_served.specs.walrus_parse_laws.walrus_pairing.walrus_forms.declared.value.RefType.{RefType}
+use Rattle.walrus_parsed_served.specs.walrus_parse_laws.walrus_pairing.walrus_forms.declared.value.StorageType.TheVariants as storages
+use Rattle.walrus_parsed_served.specs.walrus_parse_laws.walrus_pairing.walrus_forms.declared.value.StorageType.{StorageType}
+use Rattle.walrus_parsed_served.specs.walrus_parse_laws.walrus_pairing.walrus_forms.declared.value.ValType.TheVariants as values
+use Rattle.walrus_parsed_served.specs.walrus_parse_laws.walrus_pairing.walrus_forms.declared.value.ValType.{ValType}
 use Rattle.walrus_marks.specs.walrus_instr.declared.seq.InstrSeqType.TheVariants.{Simple, MultiValue}
 use Rattle.walrus_marks.specs.walrus_instr.declared.seq.InstrSeqType.{InstrSeqType}
-use Rattle.walrus_parsed_served.specs.walrus_parsed_linked.walrus_pairing.Looks.{Or, ◌>>=◌}
-use Rattle.walrus_parsed_served.specs.walrus_parsed_linked.walrus_pairing.Types.{read_abstract, read_heap, read_index, read_value}
-use Rattle.walrus_parsed_served.specs.walrus_parsed_linked.walrus_pairing.wasm_operators.Items.{Item, Names, Number, S32, S64, Bits, Byte, Bytes, Heap, Block, Access, ManyLabels, ManyValues, ManyClauses}
-use Rattle.walrus_parsed_served.specs.walrus_parsed_linked.walrus_pairing.wasm_operators.declared.block_type.BlockType.TheVariants as blocks
+use Rattle.walrus_parsed_served.specs.walrus_parse_laws.walrus_pairing.Looks.{Or, ◌>>=◌}
+use Rattle.walrus_parsed_served.specs.walrus_parse_laws.walrus_pairing.Types.{read_abstract, read_heap, read_index, read_value}
+use Rattle.walrus_parsed_served.specs.walrus_parse_laws.walrus_pairing.wasm_operators.Items.{Item, Names, Number, S32, S64, Bits, Byte, Bytes, Heap, Block, Access, ManyLabels, ManyValues, ManyClauses}
+use Rattle.walrus_parsed_served.specs.walrus_parse_laws.walrus_pairing.wasm_operators.declared.block_type.BlockType.TheVariants as blocks
 use Rattle.wasm_inexact_modules.specs.Inexact.{InexactField, InexactForm, InexactHeap, InexactItem, InexactOperator, InexactRef, InexactValue, InexactValues, InexactWord, InexactWritten}
-use Rattle.walrus_parsed_served.specs.walrus_parsed_linked.walrus_pairing.wasm_operators.Names.{Renaming, renamed_item, renamed_operator, renamed_heap as renamed_written, renamed_value as renamed_word}
-use Rattle.walrus_parsed_served.specs.walrus_parsed_linked.walrus_parsed_items.walrus_named_bodies.walrus_file_bodies.walrus_items_into.walrus_module_env.walrus_body_parser.wasm_operators.Operators.{Seen}
-use Rattle.walrus_parsed_served.specs.walrus_parsed_linked.walrus_pairing.wasm_operators.wasm_ref_types.declared.heap.HeapType.TheVariants as written
-use Rattle.walrus_parsed_served.specs.walrus_parsed_linked.walrus_pairing.wasm_operators.wasm_ref_types.declared.heap.HeapType.{HeapType as WrittenHeap}
-use Rattle.walrus_parsed_served.specs.walrus_parsed_linked.walrus_pairing.wasm_operators.wasm_ref_types.declared.value.ValType.TheVariants as words
-use Rattle.walrus_parsed_served.specs.walrus_parsed_linked.walrus_pairing.wasm_operators.wasm_ref_types.declared.value.ValType.{ValType as WrittenValue}
+use Rattle.walrus_parsed_served.specs.walrus_parse_laws.walrus_pairing.wasm_operators.Names.{Renaming, renamed_item, renamed_operator, renamed_heap as renamed_written, renamed_value as renamed_word}
+use Rattle.walrus_parsed_served.specs.walrus_parse_laws.walrus_named_bodies.walrus_file_bodies.walrus_items_into.walrus_module_env.walrus_body_parser.wasm_operators.Operators.{Seen}
+use Rattle.walrus_parsed_served.specs.walrus_parse_laws.walrus_pairing.wasm_operators.wasm_ref_types.declared.heap.HeapType.TheVariants as written
+use Rattle.walrus_parsed_served.specs.walrus_parse_laws.walrus_pairing.wasm_operators.wasm_ref_types.declared.heap.HeapType.{HeapType as WrittenHeap}
+use Rattle.walrus_parsed_served.specs.walrus_parse_laws.walrus_pairing.wasm_operators.wasm_ref_types.declared.value.ValType.TheVariants as words
+use Rattle.walrus_parsed_served.specs.walrus_parse_laws.walrus_pairing.wasm_operators.wasm_ref_types.declared.value.ValType.{ValType as WrittenValue}
 
 -- ---- tests
 

@@ -16,9 +16,9 @@ use Rattle.wasm_body_grammar.specs.wasm_operators.wasm_ref_types.declared.index.
 use Rattle.wasm_body_grammar.specs.wasm_operators.wasm_ref_types.declared.value.ValType.{ValType}
 use Rattle.wasm_body_grammar.specs.wasm_operators.wasm_ref_types.declared.value.ValType.TheVariants.{I32, I64, F32, F64, V128, Ref}
 use Rattle.wasm_body_grammar.specs.wasm_operators.wasm_ref_types.Reference.{reference}
-use Rattle.walrus_parsed_locals.specs.walrus_parsed_bodies.walrus_parsed_items.walrus_into_laws.walrus_meaning.walrus_local_function.walrus_body_locals.wasm_normal_form.Bodies.{local_in, locals_named, renamed_local, with_locals}
-use Rattle.walrus_parsed_locals.specs.walrus_parsed_bodies.walrus_parsed_items.walrus_into_laws.walrus_meaning.walrus_local_function.walrus_body_locals.wasm_normal_form.Roles.{Placed, placed}
-use Rattle.walrus_parsed_locals.specs.walrus_parsed_bodies.walrus_parsed_items.walrus_body_trees.Laws.{renamed}
+use Rattle.walrus_parse_laws.specs.walrus_meaning.walrus_local_function.walrus_body_locals.wasm_normal_form.Bodies.{local_in, locals_named, renamed_local, with_locals}
+use Rattle.walrus_parse_laws.specs.walrus_meaning.walrus_local_function.walrus_body_locals.wasm_normal_form.Roles.{Placed, placed}
+use Rattle.walrus_parse_laws.specs.walrus_body_trees.Laws.{renamed}
 use Rattle.wasm_body_grammar.specs.wasm_operators.Operators.{Seen}
 use Rattle.walrus_parsed_numbers.specs.Texts.{but_locals}
 

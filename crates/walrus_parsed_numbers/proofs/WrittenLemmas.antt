@@ -24,7 +24,7 @@ use Rattle.walrus_body_names.specs.walrus_pairing.wasm_operators.Items.{Types}
 use Rattle.walrus_body_names.specs.walrus_tree.Text.{Piece, Operator, Else, Catch, CatchAll, Delegate, End, operators}
 use Rattle.walrus_emission_laws.specs.Laws.{LocalsAreMeant}
 use Rattle.walrus_pairing.specs.Laws.{all}
-use Rattle.walrus_parsed_locals.specs.walrus_parsed_bodies.walrus_parsed_items.walrus_into_laws.walrus_meaning.walrus_module.walrus_builder.Functions.{seqs_of}
+use Rattle.walrus_parse_laws.specs.walrus_meaning.walrus_module.walrus_builder.Functions.{seqs_of}
 use Rattle.walrus_parsed_numbers.specs.Numbers.{UsedLocalsAreMeant}
 
 -- ---- an answer that is no refusal

@@ -6,24 +6,24 @@ use Rattle.wasm_body_grammar.specs.wasm_grammar.Modules as grammar
 use Rattle.wasm_body_grammar.specs.wasm_operators.NameLaws.{after}
 use Rattle.wasm_body_grammar.specs.wasm_operators.Names.{Renaming}
 use Rattle.wasm_body_grammar.specs.wasm_operators.Items.{Locals}
-use Rattle.walrus_parsed_locals.specs.walrus_parsed_bodies.walrus_parsed_items.walrus_named_bodies.walrus_file_bodies.walrus_items_into.wasm_module_rules.wasm_modules.Modules.{around}
-use Rattle.walrus_parsed_locals.specs.walrus_parsed_bodies.walrus_parsed_items.walrus_into_laws.walrus_meaning.walrus_local_function.walrus_body_locals.wasm_normal_form.Bodies.{normal_body}
-use Rattle.walrus_parsed_locals.specs.walrus_parsed_bodies.walrus_parsed_items.walrus_named_bodies.walrus_file_bodies.walrus_items_into.walrus_module_env.wasm_run_names.Picks.{block_pick}
+use Rattle.walrus_parse_laws.specs.walrus_named_bodies.walrus_file_bodies.walrus_items_into.wasm_module_rules.wasm_modules.Modules.{around}
+use Rattle.walrus_parse_laws.specs.walrus_meaning.walrus_local_function.walrus_body_locals.wasm_normal_form.Bodies.{normal_body}
+use Rattle.walrus_parse_laws.specs.walrus_named_bodies.walrus_file_bodies.walrus_items_into.walrus_module_env.wasm_run_names.Picks.{block_pick}
 use Rattle.walrus_arena.specs.Arena.{item_at}
 use Rattle.walrus_config.specs.declared.config.ModuleConfig.{ModuleConfig}
-use Rattle.walrus_parsed_locals.specs.walrus_parsed_bodies.walrus_parsed_items.walrus_named_bodies.walrus_file_bodies.Ready.{bodies_in}
-use Rattle.walrus_parsed_locals.specs.walrus_parsed_bodies.walrus_parsed_items.walrus_named_bodies.walrus_file_bodies.walrus_items_into.walrus_functions_into.declared.bodies.FunctionBody.{FunctionBody}
-use Rattle.walrus_parsed_locals.specs.walrus_parsed_bodies.walrus_parsed_items.walrus_into_laws.walrus_meaning.walrus_body_writer.walrus_pairing.walrus_index_maps.Maps.{Ids, Indices}
-use Rattle.walrus_parsed_locals.specs.walrus_parsed_bodies.walrus_parsed_items.walrus_named_bodies.walrus_file_bodies.walrus_items_into.walrus_tables_into.walrus_sections_into.walrus_known_sections.State.{state_of}
-use Rattle.walrus_parsed_locals.specs.walrus_parsed_bodies.walrus_parsed_items.walrus_into_laws.walrus_meaning.walrus_local_function.declared.local_function.LocalFunction.{LocalFunction}
-use Rattle.walrus_parsed_locals.specs.walrus_parsed_bodies.walrus_parsed_items.walrus_into_laws.walrus_meaning.walrus_module.Parts.{Module, parts}
-use Rattle.walrus_parsed_locals.specs.walrus_parsed_bodies.walrus_parsed_items.walrus_into_laws.walrus_meaning.walrus_module.declared.module.Module.{Module as Whole}
-use Rattle.walrus_parsed_locals.specs.walrus_parsed_bodies.walrus_parsed_items.walrus_into_laws.walrus_meaning.walrus_module.walrus_builder.Functions.{seqs_of}
-use Rattle.walrus_parsed_locals.specs.walrus_parsed_bodies.walrus_parsed_items.walrus_into_laws.walrus_meaning.walrus_linked.walrus_module_items.declared.function.Function.{Function}
-use Rattle.walrus_parsed_locals.specs.walrus_parsed_bodies.walrus_parsed_items.walrus_into_laws.walrus_meaning.walrus_linked.walrus_module_items.declared.function.FunctionKind.TheVariants as kinds
-use Rattle.walrus_parsed_locals.specs.walrus_parsed_bodies.walrus_parsed_items.walrus_named_bodies.Parsed.{IsReadAs, read_features}
-use Rattle.walrus_parsed_locals.specs.walrus_parsed_bodies.walrus_parsed_items.walrus_body_trees.Laws.{renamed}
-use Rattle.walrus_parsed_locals.specs.walrus_parsed_bodies.Texts.{naming}
+use Rattle.walrus_parse_laws.specs.walrus_named_bodies.walrus_file_bodies.Ready.{bodies_in}
+use Rattle.walrus_parse_laws.specs.walrus_named_bodies.walrus_file_bodies.walrus_items_into.walrus_functions_into.declared.bodies.FunctionBody.{FunctionBody}
+use Rattle.walrus_parse_laws.specs.walrus_meaning.walrus_body_writer.walrus_pairing.walrus_index_maps.Maps.{Ids, Indices}
+use Rattle.walrus_parse_laws.specs.walrus_named_bodies.walrus_file_bodies.walrus_items_into.walrus_tables_into.walrus_sections_into.walrus_known_sections.State.{state_of}
+use Rattle.walrus_parse_laws.specs.walrus_meaning.walrus_local_function.declared.local_function.LocalFunction.{LocalFunction}
+use Rattle.walrus_parse_laws.specs.walrus_meaning.walrus_module.Parts.{Module, parts}
+use Rattle.walrus_parse_laws.specs.walrus_meaning.walrus_module.declared.module.Module.{Module as Whole}
+use Rattle.walrus_parse_laws.specs.walrus_meaning.walrus_module.walrus_builder.Functions.{seqs_of}
+use Rattle.walrus_parse_laws.specs.walrus_meaning.walrus_linked.walrus_module_items.declared.function.Function.{Function}
+use Rattle.walrus_parse_laws.specs.walrus_meaning.walrus_linked.walrus_module_items.declared.function.FunctionKind.TheVariants as kinds
+use Rattle.walrus_parse_laws.specs.walrus_named_bodies.Parsed.{IsReadAs, read_features}
+use Rattle.walrus_parse_laws.specs.walrus_body_trees.Laws.{renamed}
+use Rattle.walrus_parse_laws.specs.BodiesTexts.{naming}
 use Rattle.walrus_body_laws.specs.Laws.{text_ops}
 use Rattle.walrus_body_laws.specs.Renaming.{KeepsLabels}
 use Rattle.walrus_body_names.specs.walrus_body_writer.Spelled.{AreWritten}
@@ -31,7 +31,7 @@ use Rattle.walrus_body_names.specs.walrus_pairing.Looks.{number_of}
 use Rattle.walrus_body_names.specs.walrus_tree.Text.{operators}
 use Rattle.walrus_local_numbers.specs.Declared.{local_ids, with_numbers}
 use Rattle.walrus_pairing.specs.Sends.{Sends}
-use Rattle.walrus_parsed_locals.specs.Locals.{typed}
+use Rattle.walrus_parse_laws.specs.Locals.{typed}
 use Rattle.walrus_parsed_numbers.specs.Numbers.{AreUsed}
 
 -- all is renamed but locals

@@ -26,26 +26,26 @@ use Rattle.wasm_merged_modules.specs.wasm_normal_modules.wasm_ruled_renamed.Bodi
 use Rattle.wasm_merged_modules.specs.wasm_normal_modules.Modules.{by_types, normal_function, normal_origin}
 use Rattle.wasm_merged_modules.specs.wasm_normal_modules.Numbered.{ComesTo, NumberedOperatorsAreNormal}
 use Rattle.walrus_types.specs.walrus_forms.walrus_arena.Arena.{item_at}
-use Rattle.walrus_parsed_meaning.specs.walrus_parsed_linked.walrus_parsed_items.walrus_into_laws.walrus_meaning.walrus_body_writer.walrus_pairing.walrus_index_maps.Maps.{Ids}
-use Rattle.walrus_parsed_meaning.specs.walrus_parsed_linked.walrus_parsed_items.walrus_into_laws.Meaning.{OthersStay, type_id}
-use Rattle.walrus_parsed_meaning.specs.walrus_parsed_linked.walrus_parsed_items.walrus_into_laws.walrus_meaning.walrus_linked.Linked.{IsLinked, IsWhole}
-use Rattle.walrus_parsed_meaning.specs.walrus_parsed_linked.walrus_parsed_items.walrus_into_laws.walrus_meaning.Bodies.{depth_of, local_ids, own_body}
-use Rattle.walrus_parsed_meaning.specs.walrus_parsed_linked.walrus_parsed_items.walrus_into_laws.walrus_meaning.Meaning.{own_function, own_origin, slots_of}
-use Rattle.walrus_parsed_meaning.specs.walrus_parsed_linked.walrus_parsed_items.walrus_named_bodies.walrus_item_names.walrus_module.Parts.{Module}
-use Rattle.walrus_parsed_meaning.specs.walrus_parsed_linked.walrus_parsed_items.walrus_named_bodies.walrus_item_names.walrus_module.walrus_module_items.declared.function.Function.{Function}
-use Rattle.walrus_parsed_meaning.specs.walrus_parsed_linked.walrus_parsed_items.walrus_named_bodies.walrus_item_names.walrus_module.walrus_module_items.declared.function.FunctionKind.{FunctionKind}
-use Rattle.walrus_parsed_meaning.specs.walrus_parsed_linked.walrus_parsed_items.walrus_named_bodies.walrus_item_names.walrus_module.walrus_module_items.declared.function.FunctionKind.TheVariants as kinds
-use Rattle.walrus_parsed_meaning.specs.walrus_parsed_linked.walrus_parsed_bodies.Texts.{naming, text_of}
-use Rattle.walrus_parsed_meaning.specs.walrus_parsed_linked.walrus_parsed_locals.Locals.{kept_numbers, typed}
-use Rattle.walrus_parsed_meaning.specs.walrus_parsed_linked.walrus_parsed_items.walrus_named_bodies.walrus_file_bodies.walrus_items_into.walrus_tables_into.walrus_sections_into.Becomes.{look_of}
-use Rattle.walrus_parsed_meaning.specs.walrus_parsed_linked.walrus_parsed_items.walrus_named_bodies.walrus_item_names.walrus_module.walrus_tree.Trees.{AreDistinct}
-use Rattle.walrus_parsed_meaning.specs.Meant.{body_meant, each_from, function_meant, origin_meant, place_of}
-use Rattle.walrus_parsed_meaning.specs.Means.{HasLocals}
+use Rattle.walrus_parse_laws.specs.walrus_meaning.walrus_body_writer.walrus_pairing.walrus_index_maps.Maps.{Ids}
+use Rattle.walrus_parse_laws.specs.Meaning.{OthersStay, type_id}
+use Rattle.walrus_parse_laws.specs.walrus_meaning.walrus_linked.Linked.{IsLinked, IsWhole}
+use Rattle.walrus_parse_laws.specs.walrus_meaning.Bodies.{depth_of, local_ids, own_body}
+use Rattle.walrus_parse_laws.specs.walrus_meaning.Meaning.{own_function, own_origin, slots_of}
+use Rattle.walrus_parse_laws.specs.walrus_named_bodies.walrus_item_names.walrus_module.Parts.{Module}
+use Rattle.walrus_parse_laws.specs.walrus_named_bodies.walrus_item_names.walrus_module.walrus_module_items.declared.function.Function.{Function}
+use Rattle.walrus_parse_laws.specs.walrus_named_bodies.walrus_item_names.walrus_module.walrus_module_items.declared.function.FunctionKind.{FunctionKind}
+use Rattle.walrus_parse_laws.specs.walrus_named_bodies.walrus_item_names.walrus_module.walrus_module_items.declared.function.FunctionKind.TheVariants as kinds
+use Rattle.walrus_parse_laws.specs.BodiesTexts.{naming, text_of}
+use Rattle.walrus_parse_laws.specs.Locals.{kept_numbers, typed}
+use Rattle.walrus_parse_laws.specs.walrus_named_bodies.walrus_file_bodies.walrus_items_into.walrus_tables_into.walrus_sections_into.Becomes.{look_of}
+use Rattle.walrus_parse_laws.specs.walrus_named_bodies.walrus_item_names.walrus_module.walrus_tree.Trees.{AreDistinct}
+use Rattle.walrus_parse_laws.specs.Meant.{body_meant, each_from, function_meant, origin_meant, place_of}
+use Rattle.walrus_parse_laws.specs.Means.{HasLocals}
 use Rattle.walrus_parsed_ruled.specs.Numbered.{numbered_body, numbered_function, numbered_origin}
-use Rattle.walrus_parsed_meaning.proofs.walrus_parsed_linked.walrus_parsed_items.ListLemmas.{some_is}
+use Rattle.walrus_parse_laws.proofs.ListLemmas.{some_is}
 use Rattle.walrus_parsed_ruled.proofs.ItemLemmas.{split}
 use Rattle.walrus_parsed_ruled.proofs.PlaceLemmas.{at_number, ids_distinct, placed}
-use Rattle.walrus_parsed_meaning.proofs.walrus_parsed_linked.walrus_parsed_items.SlotLemmas.{each_at}
+use Rattle.walrus_parse_laws.proofs.ItemsSlotLemmas.{each_at}
 
 -- ---- slots, each function by its number
 

@@ -49,16 +49,16 @@ use Rattle.wasm_merged_modules.proofs.wasm_ruled_renamed.Bodies.{all_sent, all_u
 use Rattle.wasm_merged_modules.specs.wasm_normal_modules.wasm_ruled_renamed.Bodies.{with_numbers}
 use Rattle.wasm_merged_modules.specs.wasm_normal_modules.wasm_ruled_renamed.Renamed.{IsThere, NamesThere}
 use Rattle.wasm_merged_modules.specs.Merged.{IsMissing, UnfoundKindsAreMissing, ids_of, kept_of, kinds_of, merged_types}
-use Rattle.walrus_parsed_meaning.specs.walrus_parsed_linked.walrus_parsed_items.walrus_into_laws.walrus_meaning.walrus_local_function.walrus_body_locals.walrus_body_nesting.Opens.{same as as_it_is}
+use Rattle.walrus_parse_laws.specs.walrus_meaning.walrus_local_function.walrus_body_locals.walrus_body_nesting.Opens.{same as as_it_is}
 use Rattle.walrus_function_types.specs.FunctionTypes.{form_params, form_results}
-use Rattle.walrus_parsed_meaning.specs.walrus_parsed_linked.walrus_parsed_items.walrus_into_laws.walrus_meaning.walrus_body_writer.walrus_body_env.walrus_instr.BlockTypes.{short_form}
-use Rattle.walrus_parsed_meaning.specs.walrus_parsed_linked.walrus_parsed_items.walrus_into_laws.walrus_meaning.walrus_body_writer.walrus_body_env.walrus_instr.declared.seq.InstrSeqType.{InstrSeqType}
-use Rattle.walrus_parsed_meaning.specs.walrus_parsed_linked.walrus_parsed_items.walrus_into_laws.walrus_meaning.walrus_body_writer.walrus_body_env.walrus_instr.declared.seq.InstrSeqType.TheVariants.{MultiValue}
+use Rattle.walrus_parse_laws.specs.walrus_meaning.walrus_body_writer.walrus_body_env.walrus_instr.BlockTypes.{short_form}
+use Rattle.walrus_parse_laws.specs.walrus_meaning.walrus_body_writer.walrus_body_env.walrus_instr.declared.seq.InstrSeqType.{InstrSeqType}
+use Rattle.walrus_parse_laws.specs.walrus_meaning.walrus_body_writer.walrus_body_env.walrus_instr.declared.seq.InstrSeqType.TheVariants.{MultiValue}
 use Rattle.walrus_types.specs.Table.{Table, found_type}
-use Rattle.walrus_parsed_meaning.specs.walrus_parsed_groups.Added.{Signature, is_missing, kind_of}
-use Rattle.walrus_parsed_meaning.specs.walrus_parsed_groups.Files.{bodies_handle, block_gives, body_handles, opened_gives, part_handles, sent, tag_takes, text_handles, type_params, type_results}
-use Rattle.walrus_parsed_meaning.specs.walrus_parsed_groups.Handlers.{signature_of}
-use Rattle.walrus_parsed_meaning.specs.Means.{bodies_of, body_if, function_bodies}
+use Rattle.walrus_parse_laws.specs.Added.{Signature, is_missing, kind_of}
+use Rattle.walrus_parse_laws.specs.Files.{bodies_handle, block_gives, body_handles, opened_gives, part_handles, sent, tag_takes, text_handles, type_params, type_results}
+use Rattle.walrus_parse_laws.specs.Handlers.{signature_of}
+use Rattle.walrus_parse_laws.specs.Means.{bodies_of, body_if, function_bodies}
 
 -- ---- lists of types
 

@@ -30,21 +30,21 @@ use Rattle.wasm_merged_modules.specs.wasm_normal_modules.wasm_ruled_renamed.wasm
 use Rattle.wasm_merged_modules.proofs.wasm_ruled_normal.Tests.{all_join}
 use Rattle.wasm_merged_modules.specs.wasm_normal_modules.Modules as normal
 use Rattle.wasm_merged_modules.specs.wasm_normal_modules.Numbered.{NamesDecide}
-use Rattle.walrus_parsed_meaning.specs.walrus_parsed_linked.walrus_parsed_items.walrus_into_laws.walrus_meaning.walrus_body_writer.walrus_body_env.walrus_instr.declared.const_expr.ConstExpr.{ConstExpr}
-use Rattle.walrus_parsed_meaning.specs.walrus_parsed_linked.walrus_parsed_items.walrus_into_laws.walrus_meaning.walrus_body_writer.walrus_body_env.walrus_instr.declared.const_expr.ConstOp.{ConstOp}
-use Rattle.walrus_parsed_meaning.specs.walrus_parsed_linked.walrus_parsed_items.walrus_into_laws.walrus_meaning.walrus_body_writer.walrus_body_env.walrus_instr.declared.const_expr.ConstOp.TheVariants as consts
-use Rattle.walrus_parsed_meaning.specs.walrus_parsed_linked.walrus_parsed_items.walrus_into_laws.Renamed as into
-use Rattle.walrus_parsed_meaning.proofs.walrus_parsed_linked.walrus_parsed_items.ListLemmas.{some_is}
-use Rattle.walrus_parsed_meaning.specs.walrus_parsed_linked.walrus_parsed_items.walrus_into_laws.walrus_meaning.Meaning.{own_data_mode, own_element_mode, own_elements, own_value_of}
-use Rattle.walrus_parsed_meaning.specs.walrus_parsed_linked.walrus_parsed_items.walrus_into_laws.walrus_meaning.Words.{const_seen, own_expr}
-use Rattle.walrus_parsed_meaning.specs.walrus_parsed_linked.walrus_parsed_items.walrus_named_bodies.walrus_item_names.walrus_module.walrus_module_items.declared.data.DataKind.{DataKind}
-use Rattle.walrus_parsed_meaning.specs.walrus_parsed_linked.walrus_parsed_items.walrus_named_bodies.walrus_item_names.walrus_module.walrus_module_items.declared.data.DataKind.TheVariants as datas
-use Rattle.walrus_parsed_meaning.specs.walrus_parsed_linked.walrus_parsed_items.walrus_named_bodies.walrus_item_names.walrus_module.walrus_module_items.declared.element.ElementItems.{ElementItems}
-use Rattle.walrus_parsed_meaning.specs.walrus_parsed_linked.walrus_parsed_items.walrus_named_bodies.walrus_item_names.walrus_module.walrus_module_items.declared.element.ElementItems.TheVariants as holds
-use Rattle.walrus_parsed_meaning.specs.walrus_parsed_linked.walrus_parsed_items.walrus_named_bodies.walrus_item_names.walrus_module.walrus_module_items.declared.element.ElementKind.{ElementKind}
-use Rattle.walrus_parsed_meaning.specs.walrus_parsed_linked.walrus_parsed_items.walrus_named_bodies.walrus_item_names.walrus_module.walrus_module_items.declared.element.ElementKind.TheVariants as elements
-use Rattle.walrus_parsed_meaning.specs.walrus_parsed_linked.walrus_parsed_items.walrus_named_bodies.walrus_item_names.walrus_module.walrus_module_items.declared.global.GlobalKind.{GlobalKind}
-use Rattle.walrus_parsed_meaning.specs.walrus_parsed_linked.walrus_parsed_items.walrus_named_bodies.walrus_item_names.walrus_module.walrus_module_items.declared.global.GlobalKind.TheVariants as globals
+use Rattle.walrus_parse_laws.specs.walrus_meaning.walrus_body_writer.walrus_body_env.walrus_instr.declared.const_expr.ConstExpr.{ConstExpr}
+use Rattle.walrus_parse_laws.specs.walrus_meaning.walrus_body_writer.walrus_body_env.walrus_instr.declared.const_expr.ConstOp.{ConstOp}
+use Rattle.walrus_parse_laws.specs.walrus_meaning.walrus_body_writer.walrus_body_env.walrus_instr.declared.const_expr.ConstOp.TheVariants as consts
+use Rattle.walrus_parse_laws.specs.Renamed as into
+use Rattle.walrus_parse_laws.proofs.ListLemmas.{some_is}
+use Rattle.walrus_parse_laws.specs.walrus_meaning.Meaning.{own_data_mode, own_element_mode, own_elements, own_value_of}
+use Rattle.walrus_parse_laws.specs.walrus_meaning.Words.{const_seen, own_expr}
+use Rattle.walrus_parse_laws.specs.walrus_named_bodies.walrus_item_names.walrus_module.walrus_module_items.declared.data.DataKind.{DataKind}
+use Rattle.walrus_parse_laws.specs.walrus_named_bodies.walrus_item_names.walrus_module.walrus_module_items.declared.data.DataKind.TheVariants as datas
+use Rattle.walrus_parse_laws.specs.walrus_named_bodies.walrus_item_names.walrus_module.walrus_module_items.declared.element.ElementItems.{ElementItems}
+use Rattle.walrus_parse_laws.specs.walrus_named_bodies.walrus_item_names.walrus_module.walrus_module_items.declared.element.ElementItems.TheVariants as holds
+use Rattle.walrus_parse_laws.specs.walrus_named_bodies.walrus_item_names.walrus_module.walrus_module_items.declared.element.ElementKind.{ElementKind}
+use Rattle.walrus_parse_laws.specs.walrus_named_bodies.walrus_item_names.walrus_module.walrus_module_items.declared.element.ElementKind.TheVariants as elements
+use Rattle.walrus_parse_laws.specs.walrus_named_bodies.walrus_item_names.walrus_module.walrus_module_items.declared.global.GlobalKind.{GlobalKind}
+use Rattle.walrus_parse_laws.specs.walrus_named_bodies.walrus_item_names.walrus_module.walrus_module_items.declared.global.GlobalKind.TheVariants as globals
 
 -- ---- slots
 

@@ -10,11 +10,11 @@ use Rattle.walrus_types.specs.walrus_forms.declared.value.ValType.{ValType}
 use Rattle.wasm_merged_modules.specs.wasm_normal_modules.wasm_ruled_renamed.wasm_ruled_normal.wasm_normal_form.Locals.{Key, in_order, insert_key, is_less, key_cmp, numbered, position}
 use Rattle.wasm_merged_modules.specs.wasm_normal_modules.wasm_ruled_renamed.wasm_ruled_normal.wasm_normal_form.Bodies.{is_used, new_number, used_keys}
 use Rattle.wasm_merged_modules.specs.wasm_normal_modules.wasm_ruled_renamed.wasm_ruled_normal.wasm_normal_form.Roles.{Placed}
-use Rattle.walrus_parsed_meaning.specs.walrus_parsed_linked.walrus_parsed_items.walrus_named_bodies.walrus_item_names.walrus_module.walrus_tree.Trees.{AreDistinct, Has}
+use Rattle.walrus_parse_laws.specs.walrus_named_bodies.walrus_item_names.walrus_module.walrus_tree.Trees.{AreDistinct, Has}
 use Rattle.walrus_types.specs.walrus_items.declared.local.Local.{Local}
-use Rattle.walrus_parsed_meaning.specs.walrus_parsed_linked.walrus_parsed_items.walrus_into_laws.walrus_meaning.walrus_local_function.declared.local_function.LocalFunction.{LocalFunction}
-use Rattle.walrus_parsed_meaning.specs.walrus_parsed_linked.walrus_parsed_items.walrus_into_laws.walrus_meaning.Bodies.{depth_of, has_number, local_ids, named_locals, own_operators}
-use Rattle.walrus_parsed_meaning.proofs.walrus_parsed_linked.walrus_parsed_items.ListLemmas.{some_is}
+use Rattle.walrus_parse_laws.specs.walrus_meaning.walrus_local_function.declared.local_function.LocalFunction.{LocalFunction}
+use Rattle.walrus_parse_laws.specs.walrus_meaning.Bodies.{depth_of, has_number, local_ids, named_locals, own_operators}
+use Rattle.walrus_parse_laws.proofs.ListLemmas.{some_is}
 
 -- ---- where no id stands twice each stands at its place
 

@@ -27,19 +27,19 @@ use Rattle.wasm_merged_modules.specs.wasm_normal_modules.Numbered.{NamesDecide, 
 use Rattle.wasm_merged_modules.specs.Merged as merged
 use Rattle.wasm_merged_modules.specs.Merged.{MergedFilesAreRuled, UnfoundKindsAreMissing, ids_of, is_filled, kept_of, kinds_of, merged_module, merged_types, single}
 use Rattle.walrus_config.specs.declared.config.ModuleConfig.{ModuleConfig}
-use Rattle.walrus_parsed_meaning.specs.walrus_parsed_linked.walrus_parsed_items.walrus_into_laws.walrus_meaning.walrus_body_writer.walrus_pairing.walrus_index_maps.Maps.{Ids}
-use Rattle.walrus_parsed_meaning.specs.walrus_parsed_linked.walrus_parsed_items.walrus_into_laws.Groups.{is_new, kept, renamed_group}
-use Rattle.walrus_parsed_meaning.specs.walrus_parsed_linked.walrus_parsed_items.walrus_into_laws.Meaning.{type_id}
-use Rattle.walrus_parsed_meaning.specs.walrus_parsed_linked.walrus_parsed_items.walrus_into_laws.Renamed as into
-use Rattle.walrus_parsed_meaning.specs.walrus_parsed_linked.walrus_parsed_items.walrus_into_laws.walrus_meaning.Meaning.{has_kinds, own_element, own_global, own_segment, own_table, own_tag}
-use Rattle.walrus_parsed_meaning.specs.walrus_parsed_linked.walrus_parsed_items.walrus_named_bodies.walrus_item_names.walrus_module.Parts.{parts}
-use Rattle.walrus_parsed_meaning.specs.walrus_parsed_linked.walrus_parsed_items.walrus_named_bodies.walrus_item_names.walrus_module.declared.module.Module.{Module as Whole}
-use Rattle.walrus_parsed_meaning.specs.walrus_parsed_linked.walrus_parsed_items.walrus_named_bodies.Parsed.{read_features}
-use Rattle.walrus_parsed_meaning.specs.walrus_parsed_groups.Added.{is_missing, kind_of, once}
-use Rattle.walrus_parsed_meaning.specs.walrus_parsed_groups.Files.{bodies_handle, sent}
-use Rattle.walrus_parsed_meaning.specs.walrus_parsed_linked.walrus_parsed_items.walrus_named_bodies.walrus_file_bodies.walrus_items_into.walrus_tables_into.walrus_sections_into.Becomes.{look_of}
-use Rattle.walrus_parsed_meaning.specs.Meant.{module_meant, picks, place_of}
-use Rattle.walrus_parsed_meaning.specs.Means.{HasLocals, MeansFile, ReadModulesMeanFiles, bodies_of, handler_kinds, is_payload, section_if}
+use Rattle.walrus_parse_laws.specs.walrus_meaning.walrus_body_writer.walrus_pairing.walrus_index_maps.Maps.{Ids}
+use Rattle.walrus_parse_laws.specs.FilledGroups.{is_new, kept, renamed_group}
+use Rattle.walrus_parse_laws.specs.Meaning.{type_id}
+use Rattle.walrus_parse_laws.specs.Renamed as into
+use Rattle.walrus_parse_laws.specs.walrus_meaning.Meaning.{has_kinds, own_element, own_global, own_segment, own_table, own_tag}
+use Rattle.walrus_parse_laws.specs.walrus_named_bodies.walrus_item_names.walrus_module.Parts.{parts}
+use Rattle.walrus_parse_laws.specs.walrus_named_bodies.walrus_item_names.walrus_module.declared.module.Module.{Module as Whole}
+use Rattle.walrus_parse_laws.specs.walrus_named_bodies.Parsed.{read_features}
+use Rattle.walrus_parse_laws.specs.Added.{is_missing, kind_of, once}
+use Rattle.walrus_parse_laws.specs.Files.{bodies_handle, sent}
+use Rattle.walrus_parse_laws.specs.walrus_named_bodies.walrus_file_bodies.walrus_items_into.walrus_tables_into.walrus_sections_into.Becomes.{look_of}
+use Rattle.walrus_parse_laws.specs.Meant.{module_meant, picks, place_of}
+use Rattle.walrus_parse_laws.specs.Means.{HasLocals, MeansFile, ReadModulesMeanFiles, bodies_of, handler_kinds, is_payload, section_if}
 use Rattle.walrus_parsed_ruled.specs.Numbered.{numbered}
 use Rattle.walrus_parsed_ruled.specs.Ruled.{MeaningsAreMerged, ReadModulesMeanRuledOnes}
 use Rattle.walrus_parsed_ruled.proofs.FunctionLemmas.{functions_numbered, picks_same, type_named, typed_below}

@@ -10,15 +10,15 @@ use Rattle.wasm_merged_modules.specs.wasm_normal_modules.wasm_ruled_renamed.wasm
 use Rattle.wasm_merged_modules.specs.wasm_normal_modules.wasm_ruled_renamed.Bodies.{with_numbers}
 use Rattle.wasm_merged_modules.specs.wasm_normal_modules.wasm_ruled_renamed.Renamed.{renamed_placed}
 use Rattle.walrus_types.specs.walrus_items.declared.local.Local.{Local as LocalItem}
-use Rattle.walrus_parsed_meaning.specs.walrus_parsed_linked.walrus_parsed_items.walrus_into_laws.walrus_meaning.Bodies.{depth_of, local_ids, own_body}
-use Rattle.walrus_parsed_meaning.specs.walrus_parsed_linked.walrus_parsed_items.walrus_into_laws.walrus_meaning.walrus_local_function.declared.local_function.LocalFunction.{LocalFunction}
-use Rattle.walrus_parsed_meaning.specs.walrus_parsed_linked.walrus_parsed_items.walrus_named_bodies.walrus_item_names.walrus_module.Parts.{Module, parts}
-use Rattle.walrus_parsed_meaning.specs.walrus_parsed_linked.walrus_parsed_items.walrus_named_bodies.walrus_item_names.walrus_module.declared.module.Module.{Module as Whole}
-use Rattle.walrus_parsed_meaning.specs.walrus_parsed_linked.walrus_parsed_items.walrus_named_bodies.walrus_item_names.walrus_module.walrus_module_items.declared.function.Function.{Function}
-use Rattle.walrus_parsed_meaning.specs.walrus_parsed_linked.walrus_parsed_items.walrus_named_bodies.walrus_item_names.walrus_module.walrus_module_items.declared.function.FunctionKind.{FunctionKind}
-use Rattle.walrus_parsed_meaning.specs.walrus_parsed_linked.walrus_parsed_items.walrus_named_bodies.walrus_item_names.walrus_module.walrus_module_items.declared.function.FunctionKind.TheVariants as kinds
-use Rattle.walrus_parsed_meaning.specs.Means.{ReadModulesMeanFiles}
-use Rattle.walrus_parsed_meaning.specs.walrus_parsed_linked.walrus_parsed_items.walrus_named_bodies.Parsed.{read_features}
+use Rattle.walrus_parse_laws.specs.walrus_meaning.Bodies.{depth_of, local_ids, own_body}
+use Rattle.walrus_parse_laws.specs.walrus_meaning.walrus_local_function.declared.local_function.LocalFunction.{LocalFunction}
+use Rattle.walrus_parse_laws.specs.walrus_named_bodies.walrus_item_names.walrus_module.Parts.{Module, parts}
+use Rattle.walrus_parse_laws.specs.walrus_named_bodies.walrus_item_names.walrus_module.declared.module.Module.{Module as Whole}
+use Rattle.walrus_parse_laws.specs.walrus_named_bodies.walrus_item_names.walrus_module.walrus_module_items.declared.function.Function.{Function}
+use Rattle.walrus_parse_laws.specs.walrus_named_bodies.walrus_item_names.walrus_module.walrus_module_items.declared.function.FunctionKind.{FunctionKind}
+use Rattle.walrus_parse_laws.specs.walrus_named_bodies.walrus_item_names.walrus_module.walrus_module_items.declared.function.FunctionKind.TheVariants as kinds
+use Rattle.walrus_parse_laws.specs.Means.{ReadModulesMeanFiles}
+use Rattle.walrus_parse_laws.specs.walrus_named_bodies.Parsed.{read_features}
 use Rattle.walrus_sent_laws.proofs.LinkedLemmas.{sent_linked}
 use Rattle.walrus_sent_laws.proofs.MeaningLemmas.{Q, body_moves, sent_meaning, type_stays, used_stay}
 use Rattle.walrus_sent_laws.proofs.MovedRules.{moved_picked, moved_ruled}

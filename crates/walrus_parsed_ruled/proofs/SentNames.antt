@@ -6,23 +6,23 @@ use Rattle.wasm_merged_modules.specs.wasm_normal_modules.wasm_ruled_renamed.wasm
 use Rattle.wasm_merged_modules.specs.wasm_normal_modules.wasm_ruled_renamed.wasm_ruled_normal.wasm_ruled_modules.wasm_module_rules.wasm_modules.wasm_body_grammar.wasm_formats.declared.fault.Space.TheVariants as spaces
 use Rattle.wasm_merged_modules.specs.wasm_normal_modules.wasm_ruled_renamed.wasm_ruled_normal.wasm_ruled_modules.wasm_module_rules.wasm_modules.wasm_body_grammar.wasm_grammar.Modules as grammar
 use Rattle.walrus_config.specs.declared.config.ModuleConfig.{ModuleConfig}
-use Rattle.walrus_parsed_meaning.specs.walrus_parsed_linked.walrus_parsed_items.walrus_into_laws.walrus_meaning.walrus_body_writer.walrus_pairing.walrus_index_maps.Maps.{Ids}
-use Rattle.walrus_parsed_meaning.specs.walrus_parsed_linked.walrus_parsed_items.walrus_named_bodies.walrus_item_names.Names.{function_called, item_name, name_at}
-use Rattle.walrus_parsed_meaning.specs.walrus_parsed_linked.walrus_parsed_items.walrus_named_bodies.walrus_item_names.Sent.{sent_names}
-use Rattle.walrus_parsed_meaning.specs.walrus_parsed_linked.walrus_parsed_items.walrus_named_bodies.walrus_item_names.Synthetic.{args_of, each_below, function_names}
-use Rattle.walrus_parsed_meaning.specs.walrus_parsed_linked.walrus_parsed_items.walrus_named_bodies.walrus_item_names.walrus_module.declared.module.Module.{Module as Whole}
-use Rattle.walrus_parsed_meaning.specs.walrus_parsed_linked.walrus_parsed_items.walrus_named_bodies.walrus_item_names.walrus_module.walrus_module_items.declared.function.Function.{Function}
-use Rattle.walrus_parsed_meaning.specs.walrus_parsed_linked.walrus_parsed_items.walrus_named_bodies.walrus_item_names.walrus_module.walrus_module_items.declared.function.FunctionKind.{FunctionKind}
-use Rattle.walrus_parsed_meaning.specs.walrus_parsed_linked.walrus_parsed_items.walrus_named_bodies.walrus_item_names.walrus_module.walrus_module_items.declared.function.FunctionKind.TheVariants as kinds
-use Rattle.walrus_parsed_meaning.specs.walrus_parsed_linked.walrus_parsed_items.walrus_named_bodies.walrus_item_names.walrus_module.walrus_module_items.Functions.{local_of}
-use Rattle.walrus_parsed_meaning.specs.walrus_parsed_linked.walrus_parsed_items.walrus_into_laws.walrus_meaning.walrus_local_function.declared.local_function.LocalFunction.{LocalFunction}
-use Rattle.walrus_parsed_meaning.specs.Means.{HasNames, holder_of, names_in}
+use Rattle.walrus_parse_laws.specs.walrus_meaning.walrus_body_writer.walrus_pairing.walrus_index_maps.Maps.{Ids}
+use Rattle.walrus_parse_laws.specs.walrus_named_bodies.walrus_item_names.Names.{function_called, item_name, name_at}
+use Rattle.walrus_parse_laws.specs.walrus_named_bodies.walrus_item_names.Sent.{sent_names}
+use Rattle.walrus_parse_laws.specs.walrus_named_bodies.walrus_item_names.Synthetic.{args_of, each_below, function_names}
+use Rattle.walrus_parse_laws.specs.walrus_named_bodies.walrus_item_names.walrus_module.declared.module.Module.{Module as Whole}
+use Rattle.walrus_parse_laws.specs.walrus_named_bodies.walrus_item_names.walrus_module.walrus_module_items.declared.function.Function.{Function}
+use Rattle.walrus_parse_laws.specs.walrus_named_bodies.walrus_item_names.walrus_module.walrus_module_items.declared.function.FunctionKind.{FunctionKind}
+use Rattle.walrus_parse_laws.specs.walrus_named_bodies.walrus_item_names.walrus_module.walrus_module_items.declared.function.FunctionKind.TheVariants as kinds
+use Rattle.walrus_parse_laws.specs.walrus_named_bodies.walrus_item_names.walrus_module.walrus_module_items.Functions.{local_of}
+use Rattle.walrus_parse_laws.specs.walrus_meaning.walrus_local_function.declared.local_function.LocalFunction.{LocalFunction}
+use Rattle.walrus_parse_laws.specs.Means.{HasNames, holder_of, names_in}
 use Rattle.walrus_sent_laws.proofs.SentLemmas.{FunctionShifted, KindShifted, SlotsShifted}
 use Rattle.walrus_sent_laws.proofs.ZipLemmas.{OptionZip, zip_slots}
 use Rattle.walrus_sent_laws.specs.walrus_arena.Arena.{Arena, item_at}
 use Rattle.walrus_sent_laws.specs.walrus_instr.declared.seq.InstrLocId.{InstrLocId}
-use Rattle.walrus_parsed_meaning.specs.walrus_parsed_linked.walrus_parsed_items.walrus_named_bodies.wasm_name_payloads.Names.{ALocal, AnItem, Bearer, Given, TheModule, last_name, names_of}
-use Rattle.walrus_parsed_meaning.specs.walrus_parsed_linked.walrus_parsed_items.walrus_named_bodies.walrus_file_bodies.walrus_items_into.walrus_payloads_into.Numbered.{locals_in}
+use Rattle.walrus_parse_laws.specs.walrus_named_bodies.wasm_name_payloads.Names.{ALocal, AnItem, Bearer, Given, TheModule, last_name, names_of}
+use Rattle.walrus_parse_laws.specs.walrus_named_bodies.walrus_file_bodies.walrus_items_into.walrus_payloads_into.Numbered.{locals_in}
 
 module _ (P : InstrLocId → InstrLocId → Type 0) where
   -- how many arguments a function has

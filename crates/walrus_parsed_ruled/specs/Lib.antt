@@ -3,4 +3,4 @@ pub mod Ruled
 pub mod Sent
 -- Passed on to crates above, which then list this one alone.
 pub use Rattle.walrus_sent_laws.specs as walrus_sent_laws
-pub use Rattle.walrus_parsed_meaning.specs as walrus_parsed_meaning
+pub use Rattle.walrus_parse_laws.specs as walrus_parse_laws

@@ -7,14 +7,14 @@ use Rattle.wasm_merged_modules.specs.wasm_normal_modules.wasm_ruled_renamed.wasm
 use Rattle.wasm_merged_modules.specs.wasm_normal_modules.Modules.{MeetsRules, OriginPicked}
 use Rattle.wasm_merged_modules.specs.Merged.{merged_module, single}
 use Rattle.walrus_config.specs.declared.config.ModuleConfig.{ModuleConfig}
-use Rattle.walrus_parsed_meaning.specs.walrus_parsed_linked.walrus_parsed_items.walrus_into_laws.walrus_meaning.walrus_body_writer.walrus_pairing.walrus_index_maps.Maps.{Ids}
-use Rattle.walrus_parsed_meaning.specs.walrus_parsed_linked.walrus_parsed_items.walrus_into_laws.Meaning.{own_custom}
-use Rattle.walrus_parsed_meaning.specs.walrus_parsed_linked.walrus_parsed_items.walrus_into_laws.walrus_meaning.Meaning.{slots_of}
-use Rattle.walrus_parsed_meaning.specs.walrus_parsed_linked.walrus_parsed_items.walrus_named_bodies.walrus_item_names.walrus_module.Parts.{parts}
-use Rattle.walrus_parsed_meaning.specs.walrus_parsed_linked.walrus_parsed_items.walrus_named_bodies.walrus_item_names.walrus_module.declared.module.Module.{Module as Whole}
-use Rattle.walrus_parsed_meaning.specs.walrus_parsed_linked.walrus_parsed_items.walrus_named_bodies.Parsed.{IsReadAs, read_features}
-use Rattle.walrus_parsed_meaning.specs.Meant.{place_of}
-use Rattle.walrus_parsed_meaning.specs.Means.{AreSized, MeansFile, handler_kinds, is_payload}
+use Rattle.walrus_parse_laws.specs.walrus_meaning.walrus_body_writer.walrus_pairing.walrus_index_maps.Maps.{Ids}
+use Rattle.walrus_parse_laws.specs.Meaning.{own_custom}
+use Rattle.walrus_parse_laws.specs.walrus_meaning.Meaning.{slots_of}
+use Rattle.walrus_parse_laws.specs.walrus_named_bodies.walrus_item_names.walrus_module.Parts.{parts}
+use Rattle.walrus_parse_laws.specs.walrus_named_bodies.walrus_item_names.walrus_module.declared.module.Module.{Module as Whole}
+use Rattle.walrus_parse_laws.specs.walrus_named_bodies.Parsed.{IsReadAs, read_features}
+use Rattle.walrus_parse_laws.specs.Meant.{place_of}
+use Rattle.walrus_parse_laws.specs.Means.{AreSized, MeansFile, handler_kinds, is_payload}
 use Rattle.walrus_parsed_ruled.specs.Numbered.{numbered}
 
 -- what a module means that was read from a file is the normal form of the file's module with its types merged, and the types of handlers behind them: taken

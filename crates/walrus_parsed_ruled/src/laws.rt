@@ -4,7 +4,7 @@ ghost use Rattle.walrus_parsed_ruled.specs.Ruled.{MeaningsAreMerged, ReadModules
 ghost use Rattle.walrus_parsed_ruled.specs.Sent.{ReadModulesAreHandedOn, SentModulesMeanRuledOnes};
 
 use walrus_instr::InstrLocId;
-use walrus_parsed_meaning::laws::modules_that_are_read_mean_their_files;
+use walrus_parse_laws::meaning::modules_that_are_read_mean_their_files;
 use walrus_types::laws::parsing_carries_same;
 use wasm_merged_modules::laws::{merged_files_are_ruled, new_kinds_stand_behind};
 use wasm_merged_modules::normal_modules::laws::{

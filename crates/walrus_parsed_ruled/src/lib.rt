@@ -6,13 +6,13 @@ pub mod laws;
 // Passed on to crates above, which then list this one alone.
 pub mod parsed_linked {
     pub mod laws {
-        pub use walrus_parsed_meaning::parsed_linked::laws::modules_that_are_read_are_linked;
+        pub use walrus_parse_laws::linked::modules_that_are_read_are_linked;
     }
 }
 
 pub mod parsed_meaning {
     pub mod laws {
-        pub use walrus_parsed_meaning::laws::modules_that_are_read_mean_their_files;
+        pub use walrus_parse_laws::meaning::modules_that_are_read_mean_their_files;
     }
 }
 

@@ -4,25 +4,25 @@ use Rattle.std.specs.Option.{option_map}
 use Rattle.std.proofs.Common.{ap, sym, ◌∙◌}
 use Rattle.walrus_arena.specs.Arena.{item_at}
 use Rattle.walrus_config.specs.declared.config.ModuleConfig.{ModuleConfig}
-use Rattle.walrus_parsed_groups.specs.walrus_parsed_linked.walrus_parsed_items.walrus_named_bodies.walrus_file_bodies.walrus_items_into.walrus_module_env.walrus_handler_types.walrus_body_steps.walrus_body_nesting.wasm_formats.declared.fault.Space.{Space}
-use Rattle.walrus_parsed_groups.specs.walrus_parsed_linked.walrus_parsed_items.walrus_named_bodies.walrus_file_bodies.walrus_items_into.walrus_module_env.walrus_handler_types.walrus_body_steps.walrus_body_nesting.wasm_formats.declared.fault.Space.TheVariants as spaces
-use Rattle.walrus_parsed_groups.proofs.walrus_parsed_linked.walrus_parsed_bodies.WholeLemmas.{bare_same}
-use Rattle.walrus_parsed_groups.proofs.walrus_parsed_linked.walrus_parsed_items.ListLemmas.{some_is}
-use Rattle.walrus_parsed_groups.specs.walrus_parsed_linked.Linked.{ReadModulesAreLinked}
-use Rattle.walrus_parsed_groups.specs.walrus_parsed_linked.walrus_parsed_items.walrus_into_laws.walrus_meaning.walrus_linked.walrus_body_writer.walrus_pairing.Looks.{Look}
-use Rattle.walrus_parsed_groups.specs.walrus_parsed_linked.walrus_parsed_items.walrus_into_laws.walrus_meaning.walrus_linked.walrus_body_writer.walrus_pairing.walrus_index_maps.Maps.{Ids}
-use Rattle.walrus_parsed_groups.specs.walrus_parsed_linked.walrus_parsed_items.walrus_into_laws.walrus_meaning.walrus_linked.Linked.{IsLinked}
-use Rattle.walrus_parsed_groups.specs.walrus_parsed_linked.walrus_parsed_items.walrus_into_laws.walrus_meaning.walrus_linked.walrus_module_items.declared.global.Global.{Global}
-use Rattle.walrus_parsed_groups.specs.walrus_parsed_linked.walrus_parsed_items.walrus_into_laws.walrus_meaning.walrus_linked.walrus_module.Parts.{Module, parts}
-use Rattle.walrus_parsed_groups.specs.walrus_parsed_linked.walrus_parsed_items.walrus_into_laws.walrus_meaning.walrus_linked.walrus_module.declared.module.Module.{Module as Whole}
-use Rattle.walrus_parsed_groups.specs.walrus_parsed_linked.walrus_parsed_items.walrus_named_bodies.Parsed.{IsReadAs}
-use Rattle.walrus_parsed_groups.specs.walrus_parsed_linked.walrus_parsed_items.walrus_named_bodies.walrus_file_bodies.walrus_items_into.walrus_tables_into.Globals.{IsGlobalOf}
-use Rattle.walrus_parsed_groups.specs.walrus_parsed_linked.walrus_parsed_items.walrus_named_bodies.walrus_file_bodies.walrus_items_into.walrus_tables_into.walrus_section_values.declared.globals.Global.{Global as ReadGlobal}
-use Rattle.walrus_parsed_groups.specs.walrus_parsed_linked.walrus_parsed_items.walrus_named_bodies.walrus_file_bodies.walrus_items_into.walrus_tables_into.walrus_sections.walrus_roots.declared.item.Item.{Item}
-use Rattle.walrus_parsed_groups.specs.walrus_parsed_linked.walrus_parsed_items.walrus_named_bodies.walrus_file_bodies.walrus_items_into.walrus_tables_into.walrus_sections_into.Becomes.{look_of}
-use Rattle.walrus_parsed_groups.specs.walrus_parsed_linked.walrus_parsed_items.walrus_named_bodies.walrus_file_bodies.walrus_items_into.walrus_tables_into.walrus_sections_into.Slots.{Become, Filled}
-use Rattle.walrus_parsed_groups.specs.walrus_parsed_linked.walrus_parsed_items.walrus_named_bodies.walrus_item_names.Holder.{Holder}
-use Rattle.walrus_parsed_groups.specs.walrus_parsed_linked.walrus_parsed_items.walrus_named_bodies.walrus_item_names.Names.{bare_global}
+use Rattle.walrus_parse_laws.specs.walrus_named_bodies.walrus_file_bodies.walrus_items_into.walrus_module_env.walrus_handler_types.walrus_body_steps.walrus_body_nesting.wasm_formats.declared.fault.Space.{Space}
+use Rattle.walrus_parse_laws.specs.walrus_named_bodies.walrus_file_bodies.walrus_items_into.walrus_module_env.walrus_handler_types.walrus_body_steps.walrus_body_nesting.wasm_formats.declared.fault.Space.TheVariants as spaces
+use Rattle.walrus_parse_laws.proofs.WholeLemmas.{bare_same}
+use Rattle.walrus_parse_laws.proofs.ListLemmas.{some_is}
+use Rattle.walrus_parse_laws.specs.Linked.{ReadModulesAreLinked}
+use Rattle.walrus_parse_laws.specs.walrus_meaning.walrus_linked.walrus_body_writer.walrus_pairing.Looks.{Look}
+use Rattle.walrus_parse_laws.specs.walrus_meaning.walrus_linked.walrus_body_writer.walrus_pairing.walrus_index_maps.Maps.{Ids}
+use Rattle.walrus_parse_laws.specs.walrus_meaning.walrus_linked.Linked.{IsLinked}
+use Rattle.walrus_parse_laws.specs.walrus_meaning.walrus_linked.walrus_module_items.declared.global.Global.{Global}
+use Rattle.walrus_parse_laws.specs.walrus_meaning.walrus_linked.walrus_module.Parts.{Module, parts}
+use Rattle.walrus_parse_laws.specs.walrus_meaning.walrus_linked.walrus_module.declared.module.Module.{Module as Whole}
+use Rattle.walrus_parse_laws.specs.walrus_named_bodies.Parsed.{IsReadAs}
+use Rattle.walrus_parse_laws.specs.walrus_named_bodies.walrus_file_bodies.walrus_items_into.walrus_tables_into.Globals.{IsGlobalOf}
+use Rattle.walrus_parse_laws.specs.walrus_named_bodies.walrus_file_bodies.walrus_items_into.walrus_tables_into.walrus_section_values.declared.globals.Global.{Global as ReadGlobal}
+use Rattle.walrus_parse_laws.specs.walrus_named_bodies.walrus_file_bodies.walrus_items_into.walrus_tables_into.walrus_sections.walrus_roots.declared.item.Item.{Item}
+use Rattle.walrus_parse_laws.specs.walrus_named_bodies.walrus_file_bodies.walrus_items_into.walrus_tables_into.walrus_sections_into.Becomes.{look_of}
+use Rattle.walrus_parse_laws.specs.walrus_named_bodies.walrus_file_bodies.walrus_items_into.walrus_tables_into.walrus_sections_into.Slots.{Become, Filled}
+use Rattle.walrus_parse_laws.specs.walrus_named_bodies.walrus_item_names.Holder.{Holder}
+use Rattle.walrus_parse_laws.specs.walrus_named_bodies.walrus_item_names.Names.{bare_global}
 use Rattle.walrus_passes_laws.specs.Served.{LinkedAreServed}
 use Rattle.walrus_passes_laws.specs.walrus_refusals.Sound.{AllReached}
 use Rattle.walrus_passes_laws.specs.walrus_refusals.Written.{IsUnshared, NamesNoLater, StaysInGroup}

@@ -4,9 +4,9 @@ ghost use Rattle.walrus_parsed_served.specs.Served.{ReadModulesAreServed, SentMo
 ghost use Rattle.walrus_parsed_served.specs.Stays.{ReadTypesStayInGroups};
 
 use walrus_instr::InstrLocId;
-use walrus_parsed_groups::file_bodies::laws::bodies_read_files;
-use walrus_parsed_groups::laws::read_modules_have_handlers;
-use walrus_parsed_groups::parsed_linked::laws::modules_that_are_read_are_linked;
+use walrus_parse_laws::file_bodies::laws::bodies_read_files;
+use walrus_parse_laws::groups::read_modules_have_handlers;
+use walrus_parse_laws::linked::modules_that_are_read_are_linked;
 use walrus_passes_laws::linked_are_served;
 
 /// In a module that was read each type names types that stand no later than itself, or that are members of its group.

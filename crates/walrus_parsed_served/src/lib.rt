@@ -6,31 +6,31 @@ pub mod laws;
 // Passed on to crates above, which then list this one alone.
 pub mod items_into {
     pub mod laws {
-        pub use walrus_parsed_groups::file_bodies::items_into::laws::filled_modules_are_filed;
-        pub use walrus_parsed_groups::items_into::laws::filled_functions_stand;
+        pub use walrus_parse_laws::items_into::laws::filled_modules_are_filed;
+        pub use walrus_parse_laws::items_into::laws::filled_functions_stand;
     }
 }
 
 pub mod module_env {
     pub mod laws {
-        pub use walrus_parsed_groups::module_env::laws::picks_are_seen;
+        pub use walrus_parse_laws::module_env::laws::picks_are_seen;
     }
 }
 
 pub mod pairing {
     pub mod laws {
-        pub use walrus_parsed_groups::pairing::laws::operators_come_back;
+        pub use walrus_parse_laws::pairing::laws::operators_come_back;
     }
 }
 
 pub mod parsed_groups {
     pub mod laws {
-        pub use walrus_parsed_groups::laws::read_modules_have_handlers;
+        pub use walrus_parse_laws::groups::read_modules_have_handlers;
     }
 }
 
 pub mod parsed_items {
     pub mod laws {
-        pub use walrus_parsed_groups::parsed_items::laws::read_modules_have_items;
+        pub use walrus_parse_laws::items::read_modules_have_items;
     }
 }
