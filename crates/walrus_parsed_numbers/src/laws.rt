@@ -5,8 +5,10 @@ ghost use Rattle.walrus_parsed_numbers.specs.Texts.{ReadBodiesWriteTheirs};
 
 use walrus_emission_laws::laws::{bodies_are_meant, locals_are_meant};
 use walrus_local_numbers::laws::numbers_follow;
+use walrus_parse_laws::bodies::{
+    bodies_of_read_modules_mean_theirs, functions_of_read_modules_are_whole,
+};
 use walrus_parse_laws::locals::bodies_of_read_modules_have_their_locals;
-use walrus_parse_laws::bodies::{bodies_of_read_modules_mean_theirs, functions_of_read_modules_are_whole};
 use wasm_operators::laws::renamings_compose;
 
 /// The locals that are declared for a body, of those that its text names, are those that it means, whether or not it can be written.

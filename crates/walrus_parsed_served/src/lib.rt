@@ -6,8 +6,9 @@ pub mod laws;
 // Passed on to crates above, which then list this one alone.
 pub mod items_into {
     pub mod laws {
-        pub use walrus_parse_laws::items_into::laws::filled_modules_are_filed;
-        pub use walrus_parse_laws::items_into::laws::filled_functions_stand;
+        pub use walrus_parse_laws::items_into::laws::{
+            filled_functions_stand, filled_modules_are_filed,
+        };
     }
 }
 
