@@ -43,19 +43,19 @@ pub mod laws {
             adds_keep_linked, deleted_exports_keep_linked, replaces_keep_linked,
         };
         pub use walrus_linked_changes::{deletes_keep_linked, writes_keep_linked};
-        pub use walrus_meaning_kept::linked::{
+        pub use walrus_pass_laws::linked::{
             empty_is_linked, imports_keep_linked, own_ids_are_kept,
         };
     }
 
     /// What a module means.
     pub mod meaning {
-        pub use walrus_meaning_kept::meaning::{adds_are_seen, empty_means_empty, items_are_seen};
+        pub use walrus_pass_laws::meaning::{adds_are_seen, empty_means_empty, items_are_seen};
     }
 
     /// What passes keep of a module.
     pub mod passes {
-        pub use walrus_meaning_kept::passes_laws::{
+        pub use walrus_pass_laws::passes::{
             gc_keeps_linked, linked_are_served, second_gc_deletes_nothing,
         };
     }
@@ -70,10 +70,10 @@ pub mod laws {
 
     /// What is reached is the least that holds the roots and is closed, and is what is reached in the module that is meant.
     pub mod kept {
-        pub use walrus_meaning_kept::laws::{
+        pub use walrus_pass_laws::meant::{
             kept_is_meant, passes_keep_what_is_meant, references_are_meant,
         };
-        pub use walrus_meaning_kept::references::kept_is_least;
+        pub use walrus_pass_laws::references::kept_is_least;
         pub use wasm_references::kept_is_least as meant_kept_is_least;
     }
 }

@@ -4,7 +4,7 @@ use Rattle.std.specs.List.{AllByRecursion}
 use Rattle.std.specs.Prelude.{if◌then◌else◌, Bool, Err, List, None, Ok, Option, Some, [], false, length, nat_le, nat_lt, refl, slice_get, suc, true, zero, ℕ, ◌%◌, ◌&&◌, ◌+◌, ◌-◌, ◌/◌, ◌==◌, ◌∷◌, ◌≡◌}
 use Rattle.walrus_parsed_served.specs.walrus_parse_laws.walrus_named_bodies.walrus_file_bodies.walrus_items_into.walrus_module_env.walrus_body_parser.walrus_body_rules.Sights.{Sight, look, results_of, block_of, function_block, value_block, written_block, handler_of}
 use Rattle.walrus_parsed_served.specs.walrus_parse_laws.walrus_named_bodies.walrus_file_bodies.walrus_items_into.walrus_module_env.walrus_handler_types.walrus_body_steps.Meanings.{RunsAs, OpensOf, reference}
-use Rattle.walrus_parsed_served.specs.walrus_passes_laws.walrus_exact.Exact.{heap_exact, instr_exact, val_exact}
+use Rattle.walrus_parsed_served.specs.walrus_pass_laws.walrus_exact.Exact.{heap_exact, instr_exact, val_exact}
 use Rattle.walrus_parsed_served.specs.walrus_parse_laws.walrus_pairing.walrus_forms.declared.value.HeapType.TheVariants as heaps
 use Rattle.walrus_parsed_served.specs.walrus_parse_laws.walrus_pairing.walrus_forms.declared.value.HeapType.{HeapType}
 use Rattle.walrus_parsed_served.specs.walrus_parse_laws.walrus_pairing.walrus_forms.declared.value.ValType.TheVariants as values

@@ -3,7 +3,7 @@ use Rattle.std.proofs.Common.{ap, subst, sym}
 use Rattle.std.specs.List.{AllByRecursion, list_any}
 use Rattle.std.specs.Option.{option_map}
 use Rattle.std.specs.Prelude.{Bool, List, None, Option, Some, [], false, map, refl, slice_index_or, suc, zero, ℕ, ◌∷◌, ◌≡◌}
-use Rattle.walrus_parsed_served.specs.walrus_passes_laws.walrus_exact.Exact.{data_exact, element_exact, expr_exact, global_exact, heap_exact, held_exact, init_exact, op_exact, place_exact, ref_exact, table_exact, val_exact, value_exact}
+use Rattle.walrus_parsed_served.specs.walrus_pass_laws.walrus_exact.Exact.{data_exact, element_exact, expr_exact, global_exact, heap_exact, held_exact, init_exact, op_exact, place_exact, ref_exact, table_exact, val_exact, value_exact}
 use Rattle.walrus_parsed_served.specs.walrus_parse_laws.walrus_pairing.walrus_forms.Renaming.{renamed_ref}
 use Rattle.walrus_parsed_served.specs.walrus_parse_laws.walrus_pairing.walrus_forms.declared.value.HeapType.TheVariants as heaps
 use Rattle.walrus_parsed_served.specs.walrus_parse_laws.walrus_pairing.walrus_forms.declared.value.HeapType.{HeapType}
@@ -28,7 +28,7 @@ use Rattle.walrus_parsed_served.specs.walrus_parse_laws.walrus_named_bodies.walr
 use Rattle.walrus_parsed_served.specs.walrus_parse_laws.walrus_named_bodies.walrus_file_bodies.walrus_items_into.walrus_module_env.walrus_collections.walrus_module_items.declared.global.GlobalKind.{GlobalKind}
 use Rattle.walrus_parsed_served.specs.walrus_parse_laws.walrus_named_bodies.walrus_file_bodies.walrus_items_into.walrus_module_env.walrus_collections.walrus_module_items.declared.table.Table.{Table}
 use Rattle.walrus_parsed_inexact.proofs.ValueLemmas.{any_false, heap_false, operator_renamed, or_false, ref_renamed, value_false, value_renamed}
-use Rattle.walrus_parsed_served.specs.walrus_passes_laws.walrus_refusals.Written.{HasNone}
+use Rattle.walrus_parsed_served.specs.walrus_pass_laws.walrus_refusals.Written.{HasNone}
 use Rattle.walrus_parsed_served.specs.walrus_parse_laws.walrus_named_bodies.walrus_file_bodies.walrus_items_into.wasm_sections.wasm_grammar.Modules as grammar
 use Rattle.wasm_inexact_modules.specs.Inexact.{InexactElements, InexactExpr, InexactInit, InexactMode, InexactOperator, InexactOrigin, InexactRef, InexactValue, InexactWritten}
 use Rattle.walrus_parsed_served.specs.walrus_parse_laws.walrus_named_bodies.walrus_file_bodies.walrus_items_into.wasm_module_rules.Linked.{Each}

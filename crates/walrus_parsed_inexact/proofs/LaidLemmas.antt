@@ -9,7 +9,7 @@ use Rattle.walrus_parsed_served.specs.walrus_parse_laws.walrus_named_bodies.walr
 use Rattle.walrus_parsed_served.specs.walrus_parse_laws.walrus_named_bodies.walrus_file_bodies.walrus_items_into.walrus_module_env.walrus_body_parser.walrus_body_rules.Sights.{Sight, tag_params}
 use Rattle.walrus_parsed_served.specs.walrus_parse_laws.walrus_named_bodies.walrus_file_bodies.walrus_items_into.walrus_module_env.walrus_handler_types.walrus_body_steps.Meanings.{TurnsTo, meaning}
 use Rattle.walrus_parsed_served.specs.walrus_parse_laws.walrus_named_bodies.walrus_file_bodies.walrus_items_into.walrus_module_env.walrus_handler_types.walrus_tree.walrus_builder.Built.{Seq, seq_of}
-use Rattle.walrus_parsed_served.specs.walrus_passes_laws.walrus_exact.Exact.{block_exact, instr_exact, instrs_exact}
+use Rattle.walrus_parsed_served.specs.walrus_pass_laws.walrus_exact.Exact.{block_exact, instr_exact, instrs_exact}
 use Rattle.walrus_marks.specs.walrus_instr.declared.instr.Instr.{Instr}
 use Rattle.walrus_marks.specs.walrus_instr.declared.instr.LegacyCatch.TheVariants as legacy
 use Rattle.walrus_marks.specs.walrus_instr.declared.instr.LegacyCatch.{LegacyCatch}
@@ -22,13 +22,13 @@ use Rattle.walrus_parsed_inexact.proofs.InstrLemmas.{IsFine, IsLeaf, Knows, hand
 use Rattle.walrus_parsed_inexact.proofs.TreeLemmas.{TreeIs}
 use Rattle.walrus_parsed_served.proofs.walrus_parse_laws.walrus_body_walks.Meeting.{New, Stays, either_bool, new_back, new_front, new_one, not_both, seen_at, with_cases, with_here, with_stays}
 use Rattle.walrus_parsed_inexact.proofs.ValueLemmas.{InexactType, any_false, or_false, type_false}
-use Rattle.walrus_parsed_served.proofs.walrus_passes_laws.BodyLemmas.{of_held}
-use Rattle.walrus_parsed_served.specs.walrus_passes_laws.walrus_references.References.{Holds, IsEntry, held, held_in}
-use Rattle.walrus_parsed_served.specs.walrus_passes_laws.walrus_refusals.Written.{BodyHasNone}
+use Rattle.walrus_parsed_served.proofs.walrus_pass_laws.BodyLemmas.{of_held}
+use Rattle.walrus_parsed_served.specs.walrus_pass_laws.walrus_references.References.{Holds, IsEntry, held, held_in}
+use Rattle.walrus_parsed_served.specs.walrus_pass_laws.walrus_refusals.Written.{BodyHasNone}
 use Rattle.walrus_parsed_served.specs.walrus_parse_laws.walrus_named_bodies.walrus_file_bodies.walrus_items_into.walrus_tables_into.walrus_sections.walrus_roots.Items.{item}
 use Rattle.walrus_parsed_served.specs.walrus_parse_laws.walrus_named_bodies.walrus_file_bodies.walrus_items_into.walrus_tables_into.walrus_sections.walrus_roots.declared.item.Item.{Item}
 use Rattle.walrus_parsed_served.specs.walrus_parse_laws.walrus_named_bodies.walrus_file_bodies.walrus_items_into.walrus_module_env.walrus_handler_types.walrus_tree.Trees.{Has}
-use Rattle.walrus_parsed_served.proofs.walrus_passes_laws.walrus_passes.walrus_used.LooksLemmas.{none_in, only_in}
+use Rattle.walrus_parsed_served.proofs.walrus_pass_laws.walrus_passes.walrus_used.LooksLemmas.{none_in, only_in}
 use Rattle.walrus_marks.specs.walrus_walks.Tree.{children, children_in, handlers as handlers_of}
 use Rattle.walrus_parsed_served.specs.walrus_parse_laws.walrus_named_bodies.walrus_file_bodies.walrus_items_into.walrus_module_env.walrus_body_parser.wasm_operators.wasm_features.declared.WasmFeatures.{WasmFeatures}
 use Rattle.walrus_parsed_served.specs.walrus_parse_laws.walrus_named_bodies.walrus_file_bodies.walrus_items_into.wasm_sections.wasm_grammar.wasm_formats.declared.fault.Space.TheVariants as spaces

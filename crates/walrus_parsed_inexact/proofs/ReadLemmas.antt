@@ -5,7 +5,7 @@ use Rattle.std.specs.Option.{option_map}
 use Rattle.std.specs.Prelude.{List, MatchOption, None, Option, Some, [], length, map, refl, slice_get, slice_index_or, suc, zero, ℕ, ◌∷◌, ◌≡◌}
 use Rattle.walrus_parsed_served.specs.walrus_sent_laws.walrus_arena.Arena.{item_at}
 use Rattle.walrus_parsed_served.specs.walrus_parse_laws.walrus_named_bodies.walrus_file_bodies.walrus_items_into.walrus_module_env.walrus_handler_types.walrus_tree.walrus_builder.Functions.{seqs_of}
-use Rattle.walrus_parsed_served.specs.walrus_passes_laws.walrus_exact.Exact.{data_exact, element_exact, global_exact, table_exact, val_exact}
+use Rattle.walrus_parsed_served.specs.walrus_pass_laws.walrus_exact.Exact.{data_exact, element_exact, global_exact, table_exact, val_exact}
 use Rattle.walrus_parsed_served.proofs.walrus_parse_laws.walrus_file_bodies.StopLemmas.{count_in}
 use Rattle.walrus_parsed_served.specs.walrus_parse_laws.walrus_named_bodies.walrus_file_bodies.Read.{Waits, grows_none, steps_grow}
 use Rattle.walrus_parsed_served.specs.walrus_parse_laws.walrus_named_bodies.walrus_file_bodies.Ready.{bodies_in}
@@ -24,7 +24,7 @@ use Rattle.walrus_parsed_served.specs.walrus_parse_laws.walrus_named_bodies.walr
 use Rattle.walrus_parsed_served.specs.walrus_parse_laws.walrus_named_bodies.walrus_file_bodies.walrus_items_into.walrus_functions_into.walrus_types_into.walrus_known_sections.declared.sections.Sections.{Sections}
 use Rattle.walrus_parsed_served.specs.walrus_parse_laws.walrus_named_bodies.walrus_file_bodies.walrus_items_into.walrus_module_env.walrus_collections.walrus_local_function.declared.local_function.LocalFunction.{LocalFunction}
 use Rattle.walrus_parsed_served.specs.walrus_parse_laws.walrus_named_bodies.walrus_file_bodies.walrus_items_into.walrus_module_bodies.walrus_body_trees.walrus_meaning.Meaning.{means, own_element, own_global, own_segment, own_table}
-use Rattle.walrus_parsed_served.specs.walrus_passes_laws.walrus_references.walrus_module.Parts.{Module, parts}
+use Rattle.walrus_parsed_served.specs.walrus_pass_laws.walrus_references.walrus_module.Parts.{Module, parts}
 use Rattle.walrus_parsed_served.specs.walrus_parse_laws.walrus_named_bodies.walrus_file_bodies.walrus_module_bodies.Steps.{State, state}
 use Rattle.walrus_parsed_served.specs.walrus_parse_laws.walrus_named_bodies.walrus_file_bodies.walrus_items_into.walrus_module_env.Parsed.{PicksAreSeen}
 use Rattle.walrus_parsed_served.specs.walrus_parse_laws.walrus_named_bodies.walrus_file_bodies.walrus_items_into.walrus_module_env.walrus_collections.walrus_module_items.declared.data.Data.{Data}
@@ -48,7 +48,7 @@ use Rattle.walrus_parsed_inexact.proofs.ValueLemmas.{some_is, value_false}
 use Rattle.walrus_parsed_inexact.specs.Passed.{IsPassed, ReadModulesHaveNoExact, ReadModulesPass}
 use Rattle.walrus_parsed_served.specs.walrus_parse_laws.Items.{HasItems, ReadModulesHaveItems, file_of}
 use Rattle.walrus_parsed_served.specs.Served.{IsServed, ReadModulesAreServed}
-use Rattle.walrus_parsed_served.specs.walrus_passes_laws.walrus_refusals.Written.{BodyHasNone, HasNoExact, HasNoExactIn, HasNone, KindHasNone}
+use Rattle.walrus_parsed_served.specs.walrus_pass_laws.walrus_refusals.Written.{BodyHasNone, HasNoExact, HasNoExactIn, HasNone, KindHasNone}
 use Rattle.walrus_parsed_served.specs.walrus_parse_laws.walrus_named_bodies.walrus_file_bodies.walrus_items_into.walrus_tables_into.walrus_sections.walrus_roots.declared.item.Item.{Item}
 use Rattle.walrus_parsed_served.specs.walrus_parse_laws.walrus_named_bodies.walrus_file_bodies.walrus_items_into.walrus_tables_into.walrus_sections_into.Becomes.{look_of}
 use Rattle.walrus_marks.specs.walrus_instr.walrus_types.Table.{Table}

@@ -4,13 +4,13 @@ use Rattle.std.specs.List.{AllZip, flat_map}
 use Rattle.std.specs.Prelude.{Contains, List, MatchOption, None, Option, Some, [], false, map, nat_eq, not, refl, slice_get, ℕ, ◌&&◌, ◌++◌, ◌||◌, ◌∷◌, ◌≡◌}
 use Rattle.walrus_parsed_served.specs.walrus_sent_laws.walrus_arena.Arena.{Arena, item_at}
 use Rattle.walrus_parsed_served.specs.walrus_parse_laws.walrus_named_bodies.walrus_file_bodies.walrus_items_into.walrus_module_env.walrus_handler_types.walrus_tree.walrus_builder.Functions.{seqs_of}
-use Rattle.walrus_parsed_served.specs.walrus_passes_laws.walrus_exact.Exact.{block_exact, instr_exact, instrs_exact, seq_exact}
+use Rattle.walrus_parsed_served.specs.walrus_pass_laws.walrus_exact.Exact.{block_exact, instr_exact, instrs_exact, seq_exact}
 use Rattle.walrus_marks.specs.walrus_instr.declared.instr.Instr.{Instr}
 use Rattle.walrus_marks.specs.walrus_instr.declared.seq.InstrLocId.{InstrLocId}
 use Rattle.walrus_marks.specs.walrus_instr.declared.seq.InstrSeq.{InstrSeq}
 use Rattle.walrus_parsed_served.specs.walrus_sent_laws.walrus_locations.Sent.{FunctionsSent}
 use Rattle.walrus_marks.specs.Chains.{Chain, root, refers}
-use Rattle.walrus_parsed_served.specs.walrus_passes_laws.walrus_references.walrus_module.Parts.{Module, parts}
+use Rattle.walrus_parsed_served.specs.walrus_pass_laws.walrus_references.walrus_module.Parts.{Module, parts}
 use Rattle.walrus_parsed_served.specs.walrus_parse_laws.walrus_named_bodies.walrus_file_bodies.walrus_items_into.walrus_module_env.walrus_collections.walrus_module_items.declared.function.Function.{Function}
 use Rattle.walrus_parsed_served.specs.walrus_parse_laws.walrus_named_bodies.walrus_file_bodies.walrus_items_into.walrus_module_env.walrus_collections.walrus_module_items.declared.function.FunctionKind.TheVariants.{Import, Local, Uninitialized}
 use Rattle.walrus_parsed_served.specs.walrus_parse_laws.walrus_named_bodies.walrus_file_bodies.walrus_items_into.walrus_module_env.walrus_collections.walrus_module_items.declared.function.FunctionKind.{FunctionKind}
@@ -18,8 +18,8 @@ use Rattle.walrus_parsed_inexact.proofs.ReadLemmas.{passed}
 use Rattle.walrus_parsed_inexact.proofs.ValueLemmas.{some_is}
 use Rattle.walrus_parsed_inexact.specs.Passed.{ReadModulesHaveNoExact, SentModulesPass}
 use Rattle.walrus_parsed_served.specs.Served.{SentModulesAreServed}
-use Rattle.walrus_parsed_served.specs.walrus_passes_laws.walrus_references.References.{Holds, IsEntry, held, held_in}
-use Rattle.walrus_parsed_served.specs.walrus_passes_laws.walrus_refusals.Written.{BodyHasNone, HasNoExact, HasNoExactIn, KindHasNone}
+use Rattle.walrus_parsed_served.specs.walrus_pass_laws.walrus_references.References.{Holds, IsEntry, held, held_in}
+use Rattle.walrus_parsed_served.specs.walrus_pass_laws.walrus_refusals.Written.{BodyHasNone, HasNoExact, HasNoExactIn, KindHasNone}
 use Rattle.walrus_parsed_served.specs.walrus_parse_laws.walrus_named_bodies.walrus_file_bodies.walrus_items_into.walrus_tables_into.walrus_sections.walrus_roots.Items.{item}
 use Rattle.walrus_parsed_served.specs.walrus_parse_laws.walrus_named_bodies.walrus_file_bodies.walrus_items_into.walrus_tables_into.walrus_sections.walrus_roots.declared.item.Item.{Item}
 use Rattle.walrus_parsed_served.proofs.walrus_sent_laws.SentLemmas.{Answered, FunctionShifted, KindShifted, functions_moved}

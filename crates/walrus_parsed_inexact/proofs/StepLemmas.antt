@@ -40,7 +40,7 @@ use Rattle.walrus_parsed_inexact.proofs.TextLemmas.{joined}
 use Rattle.walrus_parsed_inexact.proofs.TreeLemmas.{normal_is}
 use Rattle.walrus_parsed_inexact.proofs.TypeLemmas.{IsPlain, params_plain, results_plain}
 use Rattle.walrus_parsed_inexact.proofs.ValueLemmas.{InexactType, some_is, values_renamed}
-use Rattle.walrus_parsed_served.specs.walrus_passes_laws.walrus_refusals.Written.{BodyHasNone}
+use Rattle.walrus_parsed_served.specs.walrus_pass_laws.walrus_refusals.Written.{BodyHasNone}
 use Rattle.walrus_marks.specs.walrus_instr.walrus_types.Table.{Table, found_type}
 use Rattle.walrus_parsed_served.specs.walrus_parse_laws.walrus_named_bodies.walrus_file_bodies.walrus_items_into.walrus_module_env.walrus_handler_types.walrus_body_steps.wasm_body_grammar.Bodies.{Parts, Point, body, body_of, declared, next_point, next_total, opened, operator_in, placed}
 use Rattle.walrus_parsed_served.specs.walrus_parse_laws.walrus_named_bodies.walrus_file_bodies.walrus_items_into.walrus_module_env.walrus_handler_types.walrus_body_steps.wasm_body_grammar.Rules.{Around}

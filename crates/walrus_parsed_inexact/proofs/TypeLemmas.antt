@@ -4,7 +4,7 @@ use Rattle.std.specs.List.{AllByRecursion, flat_map}
 use Rattle.std.specs.Option.{option_and_then, option_map}
 use Rattle.std.specs.Prelude.{Bool, List, MatchOption, None, Option, Some, [], false, map, refl, slice_index_or, suc, true, zero, ℕ, ◌++◌, ◌+◌, ◌∷◌, ◌≡◌}
 use Rattle.walrus_parsed_served.specs.walrus_parse_laws.walrus_named_bodies.walrus_file_bodies.walrus_items_into.walrus_module_env.walrus_handler_types.walrus_tree.walrus_builder.Built.{Seq, contents, seq_of}
-use Rattle.walrus_parsed_served.specs.walrus_passes_laws.walrus_exact.Exact.{form_exact}
+use Rattle.walrus_parsed_served.specs.walrus_pass_laws.walrus_exact.Exact.{form_exact}
 use Rattle.walrus_parsed_served.specs.walrus_parse_laws.walrus_named_bodies.walrus_file_bodies.Read.{steps_grow}
 use Rattle.walrus_parsed_served.specs.walrus_parse_laws.walrus_pairing.walrus_forms.Forms.{ArrayForm, Form, FunctionForm, StructForm}
 use Rattle.walrus_parsed_served.specs.walrus_parse_laws.walrus_pairing.walrus_forms.Kinds.{Kind, entry_kind, function_kind}
@@ -32,7 +32,7 @@ use Rattle.walrus_parsed_served.specs.walrus_parse_laws.Groups.{handlers_in}
 use Rattle.walrus_parsed_served.specs.walrus_parse_laws.Handlers.{signature_of, signatures}
 use Rattle.walrus_parsed_inexact.proofs.TextLemmas.{InexactSignature, InexactSignatures}
 use Rattle.walrus_parsed_inexact.proofs.ValueLemmas.{form_false, form_renamed, some_is}
-use Rattle.walrus_parsed_served.specs.walrus_passes_laws.walrus_refusals.Written.{HasNone}
+use Rattle.walrus_parsed_served.specs.walrus_pass_laws.walrus_refusals.Written.{HasNone}
 use Rattle.walrus_marks.specs.walrus_instr.walrus_types.Groups.{new_items}
 use Rattle.walrus_marks.specs.walrus_instr.walrus_types.Items.{Item}
 use Rattle.walrus_marks.specs.walrus_instr.walrus_types.Parsing.{Parsed, added, known_ids, merged, parsed, parsed_group, unparsed, with_group}

@@ -2,7 +2,7 @@
 use Rattle.std.proofs.Common.{subst}
 use Rattle.std.specs.List.{AllByRecursion, list_any}
 use Rattle.std.specs.Prelude.{Bool, Err, List, None, Ok, Option, Some, [], false, map, refl, true, ℕ, ◌||◌, ◌∷◌, ◌≡◌}
-use Rattle.walrus_parsed_served.specs.walrus_passes_laws.walrus_exact.Exact.{block_exact, field_exact, form_exact, heap_exact, val_exact}
+use Rattle.walrus_parsed_served.specs.walrus_pass_laws.walrus_exact.Exact.{block_exact, field_exact, form_exact, heap_exact, val_exact}
 use Rattle.walrus_parsed_served.specs.walrus_parse_laws.walrus_pairing.walrus_forms.Forms.{ArrayForm, Form, FunctionForm, StructForm}
 use Rattle.walrus_parsed_served.specs.walrus_parse_laws.walrus_pairing.walrus_forms.Renaming.{renamed_field, renamed_form, renamed_heap, renamed_ref, renamed_storage, renamed_value}
 use Rattle.walrus_parsed_served.specs.walrus_parse_laws.walrus_pairing.walrus_forms.Values.{unpacked}

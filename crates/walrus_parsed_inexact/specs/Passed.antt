@@ -7,13 +7,13 @@ use Rattle.walrus_errors.specs.declared.error.ModuleError.{ModuleError}
 use Rattle.walrus_parsed_served.specs.walrus_parse_laws.walrus_pairing.walrus_index_maps.Maps.{Ids}
 use Rattle.walrus_marks.specs.walrus_instr.declared.seq.InstrLocId.{InstrLocId}
 use Rattle.walrus_parsed_served.specs.walrus_sent_laws.walrus_locations.Sent.{FunctionsSent}
-use Rattle.walrus_parsed_served.specs.walrus_passes_laws.walrus_references.walrus_module.Parts.{Module, parts}
-use Rattle.walrus_parsed_served.specs.walrus_passes_laws.walrus_references.walrus_module.declared.module.Module.{Module as Whole}
+use Rattle.walrus_parsed_served.specs.walrus_pass_laws.walrus_references.walrus_module.Parts.{Module, parts}
+use Rattle.walrus_parsed_served.specs.walrus_pass_laws.walrus_references.walrus_module.declared.module.Module.{Module as Whole}
 use Rattle.walrus_parsed_served.specs.walrus_parse_laws.walrus_named_bodies.walrus_file_bodies.walrus_items_into.walrus_module_env.walrus_collections.walrus_module_items.declared.function.Function.{Function}
 use Rattle.walrus_parsed_served.specs.walrus_parse_laws.walrus_named_bodies.Parsed.{IsReadAs}
-use Rattle.walrus_parsed_served.specs.walrus_passes_laws.Served.{PushesLive}
-use Rattle.walrus_parsed_served.specs.walrus_passes_laws.walrus_refusals.Sound.{IsRefused, IsSound}
-use Rattle.walrus_parsed_served.specs.walrus_passes_laws.walrus_refusals.Written.{HasNoExact}
+use Rattle.walrus_parsed_served.specs.walrus_pass_laws.Served.{PushesLive}
+use Rattle.walrus_parsed_served.specs.walrus_pass_laws.walrus_refusals.Sound.{IsRefused, IsSound}
+use Rattle.walrus_parsed_served.specs.walrus_pass_laws.walrus_refusals.Written.{HasNoExact}
 use Rattle.walrus_parsed_served.specs.walrus_parse_laws.walrus_named_bodies.walrus_file_bodies.walrus_items_into.walrus_tables_into.walrus_sections.walrus_roots.declared.item.Item.{Item}
 
 -- no heap type in any item is exact

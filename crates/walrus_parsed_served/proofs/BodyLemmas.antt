@@ -31,7 +31,7 @@ use Rattle.walrus_parse_laws.specs.walrus_named_bodies.walrus_file_bodies.walrus
 use Rattle.walrus_parse_laws.specs.walrus_named_bodies.walrus_file_bodies.walrus_items_into.walrus_module_env.Env.{tag_type_at}
 use Rattle.walrus_parse_laws.specs.walrus_named_bodies.walrus_file_bodies.walrus_module_bodies.Steps.{State, Steps}
 use Rattle.walrus_parse_laws.specs.walrus_named_bodies.walrus_file_bodies.walrus_module_bodies.declared.file.FileEnv.{FileEnv}
-use Rattle.walrus_passes_laws.specs.walrus_refusals.Written.{MayName}
+use Rattle.walrus_pass_laws.specs.walrus_refusals.Written.{MayName}
 use Rattle.walrus_types.specs.Items.{Group, Item}
 use Rattle.walrus_types.specs.Table.{Adds, Merges, Table, equal_type, next_id, type_at}
 use Rattle.walrus_parsed_served.proofs.FileLemmas.{renamed_so}

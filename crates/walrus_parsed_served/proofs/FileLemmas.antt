@@ -9,7 +9,7 @@ use Rattle.walrus_forms.specs.Renaming.{at, renamed_kind}
 use Rattle.walrus_forms.proofs.RenamingLemmas.{kinds-names}
 use Rattle.walrus_parse_laws.proofs.ListLemmas.{AllOf, all_join}
 use Rattle.walrus_parse_laws.specs.walrus_types_into.Into.{no_types}
-use Rattle.walrus_passes_laws.specs.walrus_refusals.Written.{MayName}
+use Rattle.walrus_pass_laws.specs.walrus_refusals.Written.{MayName}
 use Rattle.walrus_types.proofs.LawLemmas.{latest-law}
 use Rattle.walrus_types.specs.Groups.{new_items}
 use Rattle.walrus_types.specs.Items.{Item}

@@ -5,7 +5,7 @@ use Rattle.std.proofs.Common.{ap, sym, ◌∙◌, subst, inl, inr, arith}
 use Rattle.std.proofs.lemmas.Bool.{cases_lt}
 use Rattle.walrus_forms.specs.Kinds.{Kind, kind_names}
 use Rattle.walrus_parse_laws.proofs.ListLemmas.{AllOf, some_is}
-use Rattle.walrus_passes_laws.specs.walrus_refusals.Written.{MayName}
+use Rattle.walrus_pass_laws.specs.walrus_refusals.Written.{MayName}
 use Rattle.walrus_types.specs.Groups.{group_slot, new_items}
 use Rattle.walrus_types.specs.Items.{Group, Item}
 use Rattle.walrus_types.specs.Parsing.{with_group}

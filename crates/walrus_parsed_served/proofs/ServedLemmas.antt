@@ -23,9 +23,9 @@ use Rattle.walrus_parse_laws.specs.walrus_named_bodies.walrus_file_bodies.walrus
 use Rattle.walrus_parse_laws.specs.walrus_named_bodies.walrus_file_bodies.walrus_items_into.walrus_tables_into.walrus_sections_into.Slots.{Become, Filled}
 use Rattle.walrus_parse_laws.specs.walrus_named_bodies.walrus_item_names.Holder.{Holder}
 use Rattle.walrus_parse_laws.specs.walrus_named_bodies.walrus_item_names.Names.{bare_global}
-use Rattle.walrus_passes_laws.specs.Served.{LinkedAreServed}
-use Rattle.walrus_passes_laws.specs.walrus_refusals.Sound.{AllReached}
-use Rattle.walrus_passes_laws.specs.walrus_refusals.Written.{IsUnshared, NamesNoLater, StaysInGroup}
+use Rattle.walrus_pass_laws.specs.Served.{LinkedAreServed}
+use Rattle.walrus_pass_laws.specs.walrus_refusals.Sound.{AllReached}
+use Rattle.walrus_pass_laws.specs.walrus_refusals.Written.{IsUnshared, NamesNoLater, StaysInGroup}
 use Rattle.walrus_sent_laws.proofs.LinkedLemmas.{sent_linked}
 use Rattle.walrus_sent_laws.specs.walrus_instr.declared.seq.InstrLocId.{InstrLocId}
 use Rattle.walrus_parsed_served.specs.Served.{IsServed, ReadModulesAreServed, SentModulesAreServed}

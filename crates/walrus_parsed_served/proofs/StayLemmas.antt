@@ -31,7 +31,7 @@ use Rattle.walrus_parse_laws.specs.walrus_named_bodies.walrus_file_bodies.walrus
 use Rattle.walrus_parse_laws.specs.walrus_named_bodies.walrus_file_bodies.walrus_module_bodies.declared.file.FileEnv.{FileEnv}
 use Rattle.walrus_parse_laws.specs.walrus_named_bodies.walrus_item_names.Holder.{Holder}
 use Rattle.walrus_parse_laws.specs.walrus_named_bodies.walrus_item_names.Names.{bare_type}
-use Rattle.walrus_passes_laws.specs.walrus_refusals.Written.{MayName, NamesNoLater}
+use Rattle.walrus_pass_laws.specs.walrus_refusals.Written.{MayName, NamesNoLater}
 use Rattle.walrus_types.specs.Items.{Group, Item}
 use Rattle.walrus_types.specs.Parsing.{Parsed, parsed, unparsed}
 use Rattle.walrus_types.specs.Table.{Table, next_id, type_at}

@@ -9,9 +9,9 @@ use Rattle.walrus_parse_laws.specs.walrus_meaning.walrus_linked.walrus_module.Pa
 use Rattle.walrus_parse_laws.specs.walrus_meaning.walrus_linked.walrus_module.declared.module.Module.{Module as Whole}
 use Rattle.walrus_parse_laws.specs.walrus_named_bodies.Parsed.{IsReadAs}
 use Rattle.walrus_parse_laws.specs.walrus_named_bodies.walrus_file_bodies.walrus_items_into.walrus_tables_into.walrus_sections.walrus_roots.declared.item.Item.{Item}
-use Rattle.walrus_passes_laws.specs.Served.{PushesLive}
-use Rattle.walrus_passes_laws.specs.walrus_refusals.Sound.{AllReached, IsRefused, IsSound}
-use Rattle.walrus_passes_laws.specs.walrus_refusals.Written.{HasNoExact}
+use Rattle.walrus_pass_laws.specs.Served.{PushesLive}
+use Rattle.walrus_pass_laws.specs.walrus_refusals.Sound.{AllReached, IsRefused, IsSound}
+use Rattle.walrus_pass_laws.specs.walrus_refusals.Written.{HasNoExact}
 use Rattle.walrus_parse_laws.specs.walrus_meaning.walrus_linked.walrus_module_items.declared.function.Function.{Function}
 use Rattle.walrus_arena.specs.Arena.{Arena}
 use Rattle.walrus_sent_laws.specs.walrus_instr.declared.seq.InstrLocId.{InstrLocId}

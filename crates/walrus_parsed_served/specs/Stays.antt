@@ -4,7 +4,7 @@ use Rattle.walrus_config.specs.declared.config.ModuleConfig.{ModuleConfig}
 use Rattle.walrus_parse_laws.specs.walrus_meaning.walrus_linked.walrus_body_writer.walrus_pairing.walrus_index_maps.Maps.{Ids}
 use Rattle.walrus_parse_laws.specs.walrus_meaning.walrus_linked.walrus_module.declared.module.Module.{Module as Whole}
 use Rattle.walrus_parse_laws.specs.walrus_named_bodies.Parsed.{IsReadAs}
-use Rattle.walrus_passes_laws.specs.walrus_refusals.Written.{NamesNoLater}
+use Rattle.walrus_pass_laws.specs.walrus_refusals.Written.{NamesNoLater}
 
 -- each type names types that stand no later, or that are members of its group
 abbrev pub ReadTypesStayInGroups : Type 0 → Type 0

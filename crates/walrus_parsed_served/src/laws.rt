@@ -7,7 +7,7 @@ use walrus_instr::InstrLocId;
 use walrus_parse_laws::file_bodies::laws::bodies_read_files;
 use walrus_parse_laws::groups::read_modules_have_handlers;
 use walrus_parse_laws::linked::modules_that_are_read_are_linked;
-use walrus_passes_laws::linked_are_served;
+use walrus_pass_laws::passes::linked_are_served;
 
 /// In a module that was read each type names types that stand no later than itself, or that are members of its group.
 pub fn types_of_read_modules_stay_in_groups<B>()
