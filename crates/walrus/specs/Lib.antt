@@ -14,8 +14,8 @@ pub use Rattle.walrus_collections.specs.Found
 pub use Rattle.walrus_collections.specs.Lends as CollectionLends
 pub use Rattle.walrus_collections.specs.LookUps
 pub use Rattle.walrus_collections.specs.Tests
-pub use Rattle.walrus_collection_laws.specs.Given
-pub use Rattle.walrus_collection_laws.specs.Imports
+pub use Rattle.walrus_module_laws.specs.Given
+pub use Rattle.walrus_module_laws.specs.Imports
 -- Items by space and id, and which live; replacing functions.
 pub use Rattle.walrus_roots.specs.Items
 pub use Rattle.walrus_marks.specs.Named
@@ -35,8 +35,8 @@ pub use Rattle.walrus_pass_laws.specs.walrus_meaning.walrus_linked.Kept
 pub use Rattle.walrus_pass_laws.specs.walrus_meaning.walrus_linked.Linked
 pub use Rattle.walrus_pass_laws.specs.walrus_meaning.walrus_linked.Names
 pub use Rattle.walrus_pass_laws.specs.walrus_meaning.walrus_linked.OwnIds
-pub use Rattle.walrus_linked_changes.specs.Changes as LinkedChanges
-pub use Rattle.walrus_linked_changes.specs.walrus_linked_edits.Edits
+pub use Rattle.walrus_module_laws.specs.Changes as LinkedChanges
+pub use Rattle.walrus_module_laws.specs.Edits
 -- What a module means.
 pub use Rattle.walrus_pass_laws.specs.walrus_meaning.Bodies
 pub use Rattle.walrus_pass_laws.specs.walrus_meaning.Laws as MeaningLaws

@@ -35,14 +35,14 @@ pub mod passes {
 /// Laws of the words that contracts cite.
 pub mod laws {
     /// What the iterators of collections give, when imports are equal, and that calls keep the items' own ids.
-    pub use walrus_collection_laws as collections;
+    pub use walrus_module_laws::collections;
 
     /// When a module is linked, and what edits keep of that.
     pub mod linked {
-        pub use walrus_linked_changes::linked_edits::{
+        pub use walrus_module_laws::changes::{deletes_keep_linked, writes_keep_linked};
+        pub use walrus_module_laws::edits::{
             adds_keep_linked, deleted_exports_keep_linked, replaces_keep_linked,
         };
-        pub use walrus_linked_changes::{deletes_keep_linked, writes_keep_linked};
         pub use walrus_pass_laws::linked::{
             empty_is_linked, imports_keep_linked, own_ids_are_kept,
         };
