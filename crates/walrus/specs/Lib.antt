@@ -44,15 +44,15 @@ pub use Rattle.walrus_pass_laws.specs.walrus_meaning.Meaning
 pub use Rattle.walrus_pass_laws.specs.walrus_meaning.Segments
 pub use Rattle.walrus_pass_laws.specs.walrus_meaning.Words
 -- Modules that are read.
-pub use Rattle.walrus_parsed_ruled.specs.walrus_parse_laws.walrus_named_bodies.Parsed as ReadModules
-pub use Rattle.walrus_parsed_ruled.specs.walrus_parse_laws.walrus_named_bodies.Refusals as ReadRefusals
-pub use Rattle.walrus_parsed_ruled.specs.walrus_parse_laws.Linked as ReadLinked
-pub use Rattle.walrus_parsed_ruled.specs.walrus_parse_laws.Means as ReadMeaning
-pub use Rattle.walrus_parsed_ruled.specs.Ruled as ReadRuled
-pub use Rattle.walrus_parsed_ruled.specs.Sent as ReadSent
-pub use Rattle.walrus_parsed_ruled.specs.walrus_sent_laws.Moved as SentRules
-pub use Rattle.walrus_parsed_ruled.specs.walrus_sent_laws.Ruled as SentRuled
-pub use Rattle.walrus_parsed_ruled.specs.walrus_sent_laws.Sent as SentModules
+pub use Rattle.walrus_parse_gc_laws.specs.walrus_parse_laws.walrus_named_bodies.Parsed as ReadModules
+pub use Rattle.walrus_parse_gc_laws.specs.walrus_parse_laws.walrus_named_bodies.Refusals as ReadRefusals
+pub use Rattle.walrus_parse_gc_laws.specs.walrus_parse_laws.Linked as ReadLinked
+pub use Rattle.walrus_parse_gc_laws.specs.walrus_parse_laws.Means as ReadMeaning
+pub use Rattle.walrus_parse_gc_laws.specs.Ruled as ReadRuled
+pub use Rattle.walrus_parse_gc_laws.specs.RuledSent as ReadSent
+pub use Rattle.walrus_parse_gc_laws.specs.Moved as SentRules
+pub use Rattle.walrus_parse_gc_laws.specs.SentRuled as SentRuled
+pub use Rattle.walrus_parse_gc_laws.specs.Sent as SentModules
 -- What names what, what is kept, why a pass is refused, and what it leaves.
 pub use Rattle.walrus_pass_laws.specs.walrus_references.Kept as KeptItems
 pub use Rattle.walrus_pass_laws.specs.walrus_references.References

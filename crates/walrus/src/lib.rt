@@ -62,10 +62,9 @@ pub mod laws {
 
     /// What a module is that was read: linked, it means its file, and meets the rules; and so does what a callback is handed.
     pub mod read {
-        pub use walrus_parsed_ruled::laws as ruled;
-        pub use walrus_parsed_ruled::parsed_linked::laws::modules_that_are_read_are_linked;
-        pub use walrus_parsed_ruled::parsed_meaning::laws::modules_that_are_read_mean_their_files;
-        pub use walrus_parsed_ruled::sent_laws::laws as sent;
+        pub use walrus_parse_gc_laws::parsed_linked::laws::modules_that_are_read_are_linked;
+        pub use walrus_parse_gc_laws::parsed_meaning::laws::modules_that_are_read_mean_their_files;
+        pub use walrus_parse_gc_laws::{ruled, sent};
     }
 
     /// What is reached is the least that holds the roots and is closed, and is what is reached in the module that is meant.
