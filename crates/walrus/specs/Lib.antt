@@ -2,6 +2,7 @@
 -- Flags and refusals.
 pub use Rattle.walrus_config.specs.Config
 pub use Rattle.walrus_errors.specs.Refusals
+pub use Rattle.walrus_body_env.specs.Refusals as BodyRefusals
 -- Items and functions with a body.
 pub use Rattle.walrus_collections.specs.walrus_local_function.Locals as FunctionLends
 pub use Rattle.walrus_module_items.specs.Copies as ItemCopies
@@ -45,7 +46,7 @@ pub use Rattle.walrus_pass_laws.specs.walrus_meaning.Segments
 pub use Rattle.walrus_pass_laws.specs.walrus_meaning.Words
 -- Modules that are read.
 pub use Rattle.walrus_parse_gc_laws.specs.walrus_parse_laws.walrus_named_bodies.Parsed as ReadModules
-pub use Rattle.walrus_parse_gc_laws.specs.walrus_parse_laws.walrus_named_bodies.Refusals as ReadRefusals
+pub use Rattle.walrus_parse.specs.Refusals as ReadRefusals
 pub use Rattle.walrus_parse_gc_laws.specs.walrus_parse_laws.Linked as ReadLinked
 pub use Rattle.walrus_parse_gc_laws.specs.walrus_parse_laws.Means as ReadMeaning
 pub use Rattle.walrus_parse_gc_laws.specs.Ruled as ReadRuled

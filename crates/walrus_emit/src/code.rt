@@ -6,7 +6,7 @@ ghost use Rattle.walrus_emit_numbers.specs.Order.{AreWithin};
 use crate::context::{Emission, EmitContext};
 use std::alloc::{AllocError, Global};
 use walrus_arena::{FunctionId, LocalId};
-use walrus_body_writer::{Output, emit_instructions};
+use walrus_body_writer::{Output, write_instructions};
 use walrus_emit_numbers::BodyFacts;
 use walrus_emit_parts::{put_front, write_byte, write_bytes, write_number};
 use walrus_errors::{Limited, ModuleError, Result, Space};
@@ -30,7 +30,6 @@ struct Body<'a> {
     local: &'a LocalFunction,
     facts: &'a BodyFacts,
     start: usize,
-    keeps_places: bool,
 }
 
 // How many locals a function has, of so many arguments, where the used ones have their numbers.
@@ -77,7 +76,7 @@ fn write_operators(
     out: &mut Output,
 ) -> Result<()> {
     let function = body.facts.function;
-    emit_instructions(alloc, body.local.builder(), function, maps, out)?;
+    write_instructions(alloc, body.local.builder(), function, maps, out)?;
     if out.bytes.len() > MAX_BODY {
         let of = Limited::Body;
         return Err(ModuleError::OutputLimit { of });
@@ -139,14 +138,20 @@ fn add_body(emission: &mut Emission, function: FunctionId, start: usize, out: &O
     Ok(())
 }
 
-fn write_body(alloc: Global, emission: &mut Emission, body: &Body<'_>) -> Result<()>
+// Writes a body, at first apart, where one was written before.
+fn write_body(
+    alloc: Global,
+    emission: &mut Emission,
+    body: &Body<'_>,
+    out: &mut Output,
+) -> Result<()>
     requires { body.now.start ≤ length emission.old.bytes.items }
     ensures { Keeps emission.old.bytes.items emission.new.bytes.items }
 {
-    let mut out = Output::new(alloc, body.keeps_places);
-    write_locals(alloc, &mut emission.indices, body, &mut out)?;
-    write_operators(alloc, &emission.indices, body, &mut out)?;
-    add_body(emission, body.facts.function, body.start, &out)
+    out.clear();
+    write_locals(alloc, &mut emission.indices, body, out)?;
+    write_operators(alloc, &emission.indices, body, out)?;
+    add_body(emission, body.facts.function, body.start, &*out)
 }
 
 // The functions whose bodies are written, and the place at which the section's contents begin.
@@ -158,7 +163,12 @@ struct Bodies<'a, B> {
     start: usize,
 }
 
-fn write_one<B>(emission: &mut Emission, bodies: &Bodies<'_, B>, facts: &BodyFacts) -> Result<()>
+fn write_one<B>(
+    emission: &mut Emission,
+    bodies: &Bodies<'_, B>,
+    facts: &BodyFacts,
+    out: &mut Output,
+) -> Result<()>
     requires { bodies.now.start ≤ length emission.old.bytes.items }
     ensures { Keeps emission.old.bytes.items emission.new.bytes.items }
 {
@@ -173,9 +183,8 @@ fn write_one<B>(emission: &mut Emission, bodies: &Bodies<'_, B>, facts: &BodyFac
                 local,
                 facts,
                 start: bodies.start,
-                keeps_places: bodies.input.config().preserve_code_transform,
             };
-            write_body(bodies.alloc, emission, &body)
+            write_body(bodies.alloc, emission, &body, out)
         }
         FunctionKind::Import(_) | FunctionKind::Uninitialized(_) => Err(ModuleError::NotLinked),
     }
@@ -193,8 +202,10 @@ fn write_bodies<B>(
     requires within { AreWithin facts.now order.now }
     ensures { Keeps emission.old.bytes.items emission.new.bytes.items }
 {
+    let keeps_places = bodies.input.config().preserve_code_transform;
+    let mut out = Output::new(bodies.alloc, keeps_places);
     for at in order {
-        write_one(emission, bodies, &facts[*at])?;
+        write_one(emission, bodies, &facts[*at], &mut out)?;
     }
     Ok(())
 }

@@ -1,24 +1,32 @@
 //! Custom sections (Core Specification, binary format: custom section).
 
-ghost use Rattle.walrus_operators.specs.Appended.{Keeps};
+ghost use Rattle.std.specs.Prelude.{◌≡◌, Some};
+ghost use Rattle.walrus_arena.specs.Arena.{item_at};
+ghost use Rattle.walrus_index_maps.specs.Views.{indices};
+ghost use Rattle.walrus_sections.specs.Sections.{name_in};
 ghost use Rattle.walrus_emit_parts.specs.Due.{Writes};
-ghost use Rattle.walrus_emit_customs.specs.Customs.{custom};
+ghost use Rattle.walrus_emit_customs.specs.Customs as due;
+ghost use Rattle.walrus_emit_customs.specs.Customs.{custom, any_due, customs, standing_due, stands_at};
 
 use std::alloc::Global;
 use walrus_arena::UntypedCustomSectionId;
 use walrus_emit_parts::{Part, write_bytes, write_name, write_section as write_part};
-use walrus_errors::Result;
+use walrus_errors::{ModuleError, Result};
 use walrus_index_maps::IdsToIndices;
 use walrus_sections::{CodeTransform, CustomSection, Sections};
 
 // The sections that stand first.
-fn is_first(name: &str) -> bool {
+fn is_first(name: &str) -> bool
+    ensures { result ≡ due.is_first name.now }
+{
     name == "dylink" || name == "dylink.0"
 }
 
 // The sections that aren't written.
-fn is_skipped(name: &str) -> bool {
-    name.starts_with(".debug")
+fn is_skipped(name: &str) -> bool
+    ensures { result ≡ due.is_skipped name.now }
+{
+    name.as_bytes().starts_with(b".debug")
 }
 
 // A name, and contents.
@@ -47,20 +55,24 @@ fn write_custom(out: &mut Vec<u8>, name: &str, contents: &[u8]) -> Result<()>
 }
 
 // Asks a section of a program's own for its contents.
-#[tactic(auto, using(crate::proofs::Kept::kept, crate::proofs::Kept::keeps_itself))]
+#[tactic(auto, using(crate::proofs::CustomLemmas::contents_given, crate::proofs::CustomLemmas::contents_refused))]
 fn write_boxed<B: CustomSection>(
     alloc: Global,
     out: &mut Vec<u8>,
     section: &B,
     maps: &IdsToIndices,
 ) -> Result<()>
-    ensures { Keeps out.old.items out.new.items }
+    ensures { Writes (due.told (B.own_name section.now) (B.contents section.now (indices maps.now))) out.old.items out.new.items result }
 {
-    let payload = section.data(alloc, maps)?;
+    let payload = match section.data(alloc, maps) {
+        Ok(payload) => payload,
+        Err(fault) => return Err(ModuleError::from(fault)),
+    };
     write_custom(out, section.name(), payload.as_slice())
 }
 
-#[tactic(auto, using(crate::proofs::Kept::kept, crate::proofs::Kept::keeps_itself))]
+// A section of this id.
+#[tactic(auto, using(crate::proofs::CustomLemmas::raw_written, crate::proofs::CustomLemmas::boxed_written, crate::proofs::CustomLemmas::none_written))]
 fn write_section<B: CustomSection>(
     alloc: Global,
     out: &mut Vec<u8>,
@@ -68,7 +80,7 @@ fn write_section<B: CustomSection>(
     id: UntypedCustomSectionId,
     maps: &IdsToIndices,
 ) -> Result<()>
-    ensures { Keeps out.old.items out.new.items }
+    ensures { Writes (any_due B.own_name (λ b. B.contents b (indices maps.now)) (item_at sections.now id)) out.old.items out.new.items result }
 {
     if let Some(section) = sections.get_raw(id) {
         return write_custom(out, section.name.as_str(), section.bytes.as_slice());
@@ -79,20 +91,29 @@ fn write_section<B: CustomSection>(
     }
 }
 
-// Whether a section is written among those that stand first, or among the others.
-fn stands<B: CustomSection>(
-    sections: &Sections<B>,
-    id: UntypedCustomSectionId,
-    first: bool,
-) -> bool {
+// Whether one of this name is written among those that stand first, or among the others.
+fn is_there(name: &str, first: bool) -> bool
+    ensures { result ≡ due.stands first name.now }
+{
+    if first {
+        is_first(name)
+    } else {
+        !is_first(name) && !is_skipped(name)
+    }
+}
+
+// Whether a section is.
+fn stands<B: CustomSection>(sections: &Sections<B>, id: UntypedCustomSectionId, first: bool) -> bool
+    ensures { result ≡ stands_at B.own_name first (item_at sections.now id) }
+{
     match sections.name(id) {
-        Some(name) => is_first(name) == first && !is_skipped(name),
+        Some(name) => is_there(name, first),
         None => false,
     }
 }
 
 // One of these, if it stands there.
-#[tactic(auto, using(crate::proofs::Kept::keeps_itself))]
+#[tactic(auto, using(crate::proofs::CustomLemmas::not_standing, crate::proofs::CustomLemmas::standing))]
 fn write_standing<B: CustomSection>(
     alloc: Global,
     out: &mut Vec<u8>,
@@ -101,7 +122,7 @@ fn write_standing<B: CustomSection>(
     first: bool,
     maps: &IdsToIndices,
 ) -> Result<()>
-    ensures { Keeps out.old.items out.new.items }
+    ensures { Writes (standing_due B.own_name (λ b. B.contents b (indices maps.now)) first (item_at sections.now id)) out.old.items out.new.items result }
 {
     if !stands(sections, id, first) {
         return Ok(());
@@ -115,7 +136,6 @@ fn write_standing<B: CustomSection>(
 ///
 /// `SectionRefused` where a section of a program's own refuses to say what is in it; `OutputLimit` of strings where the name of a section is
 /// longer than a reader takes; want of memory. What was there stands at the front.
-#[tactic(auto, using(crate::proofs::Kept::keeps_itself))]
 pub fn write_sections<B: CustomSection>(
     alloc: Global,
     out: &mut Vec<u8>,
@@ -123,7 +143,7 @@ pub fn write_sections<B: CustomSection>(
     first: bool,
     maps: &IdsToIndices,
 ) -> Result<()>
-    ensures { Keeps out.old.items out.new.items }
+    ensures { Writes (customs B.own_name (λ b. B.contents b (indices maps.now)) first sections.now) out.old.items out.new.items result }
 {
     for id in sections.iter() {
         put!(write_standing(alloc, out, sections, id, first, maps));

@@ -29,7 +29,7 @@ late_may (errors.OutputLimit limit) = tt
 late_may error = tt
 
 pub may_refuse : (o : Options) (input : List ℕ) (fault : Fault) → IsAccepted o input → MayBeRefused fault → IsRefused o input fault
-may_refuse o input faults.Memory reads may = unread o input errors.Memory (inl (refl, reads.1.0, read_has_header _ _ _ reads.1.3))
+may_refuse o input faults.Memory reads may = let it = reads.1.1 in unread o input errors.Memory (inl (refl, reads.1.0, read_has_header (read_features (config_of o)) input it.0 it.2))
 may_refuse o input (faults.OutputLimit limit) reads may = inr (record { reads = reads; limit = limit; fault_is = refl })
 may_refuse o input fault reads may = absurd may
 

@@ -1,10 +1,10 @@
 -- Lemmas: a rising list of all numbers that have a slot picks each slot.
-use Rattle.std.specs.Prelude.{ℕ, zero, suc, ◌≡◌, ◌<◌, ◌≤◌, ◌+◌, List, [], ◌∷◌, ◌++◌, length, map, Contains, Option, Some, None, IsSome, slice_get, slice_index_or, refl}
+use Rattle.std.specs.Prelude.{ℕ, zero, suc, ◌≡◌, ◌<◌, ◌≤◌, ◌+◌, List, [], ◌∷◌, ◌++◌, length, map, Option, Some, None, IsSome, slice_get, slice_index_or, refl}
 use Rattle.std.specs.List.{AllByRecursion}
 use Rattle.std.specs.Option.{option_map}
 use Rattle.std.proofs.Common.{ap, sym, ◌∙◌, subst, arith, inl, inr}
 use Rattle.std.proofs.lemmas.List.{append_assoc, length-append}
-use Rattle.wasm_grammar.specs.Modules.{Export, Import, Module}
+use Rattle.wasm_grammar.specs.Modules.{Export, Module}
 use Rattle.wasm_import_links.specs.Full.{IsFull, ReadModulesAreFull}
 use Rattle.wasm_part.specs.Part.{renumbered_export}
 use Rattle.wasm_part.specs.Closed.{Rise}

@@ -1,5 +1,5 @@
 -- Files and what is written of them, computed from the definitions by a plan for each.
-use Rattle.std.specs.Prelude.{ℕ, suc, ◌≡◌, ◌==◌, ◌++◌, true, false, not, List, [], ◌∷◌, filter, map, Option, Some, None, slice_index_or, Result, Ok, Err, if◌then◌else◌}
+use Rattle.std.specs.Prelude.{ℕ, Bool, true, false, suc, ◌≡◌, ◌==◌, ◌++◌, not, List, [], ◌∷◌, filter, map, Option, Some, None, slice_index_or, Result, Ok, Err, if◌then◌else◌}
 use Rattle.walrus_forms.specs.Kinds.{function_kind}
 use Rattle.walrus_forms.specs.Records.{TypeGroup}
 use Rattle.walrus_forms.specs.declared.value.ValType.{ValType}
