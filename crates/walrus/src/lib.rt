@@ -35,45 +35,44 @@ pub mod passes {
 /// Laws of the words that contracts cite.
 pub mod laws {
     /// What the iterators of collections give, when imports are equal, and that calls keep the items' own ids.
-    pub use walrus_collection_laws as collections;
+    pub use walrus_module_laws::collections;
 
     /// When a module is linked, and what edits keep of that.
     pub mod linked {
-        pub use walrus_linked_changes::linked_edits::{
+        pub use walrus_module_laws::changes::{deletes_keep_linked, writes_keep_linked};
+        pub use walrus_module_laws::edits::{
             adds_keep_linked, deleted_exports_keep_linked, replaces_keep_linked,
         };
-        pub use walrus_linked_changes::{deletes_keep_linked, writes_keep_linked};
-        pub use walrus_meaning_kept::linked::{
+        pub use walrus_pass_laws::linked::{
             empty_is_linked, imports_keep_linked, own_ids_are_kept,
         };
     }
 
     /// What a module means.
     pub mod meaning {
-        pub use walrus_meaning_kept::meaning::{adds_are_seen, empty_means_empty, items_are_seen};
+        pub use walrus_pass_laws::meaning::{adds_are_seen, empty_means_empty, items_are_seen};
     }
 
     /// What passes keep of a module.
     pub mod passes {
-        pub use walrus_meaning_kept::passes_laws::{
+        pub use walrus_pass_laws::passes::{
             gc_keeps_linked, linked_are_served, second_gc_deletes_nothing,
         };
     }
 
     /// What a module is that was read: linked, it means its file, and meets the rules; and so does what a callback is handed.
     pub mod read {
-        pub use walrus_parsed_ruled::laws as ruled;
-        pub use walrus_parsed_ruled::parsed_linked::laws::modules_that_are_read_are_linked;
-        pub use walrus_parsed_ruled::parsed_meaning::laws::modules_that_are_read_mean_their_files;
-        pub use walrus_parsed_ruled::sent_laws::laws as sent;
+        pub use walrus_parse_gc_laws::parsed_linked::laws::modules_that_are_read_are_linked;
+        pub use walrus_parse_gc_laws::parsed_meaning::laws::modules_that_are_read_mean_their_files;
+        pub use walrus_parse_gc_laws::{ruled, sent};
     }
 
     /// What is reached is the least that holds the roots and is closed, and is what is reached in the module that is meant.
     pub mod kept {
-        pub use walrus_meaning_kept::laws::{
+        pub use walrus_pass_laws::meant::{
             kept_is_meant, passes_keep_what_is_meant, references_are_meant,
         };
-        pub use walrus_meaning_kept::references::kept_is_least;
+        pub use walrus_pass_laws::references::kept_is_least;
         pub use wasm_references::kept_is_least as meant_kept_is_least;
     }
 }

@@ -1,5 +1,0 @@
-use Rattle.walrus_collection_laws.proofs.GivenLemmas.{items_live}
-use Rattle.walrus_collection_laws.proofs.given.items_are_live.Goals as goal
-
-pub returns : goal.returns
-returns g c = items_live c.args.collection.now

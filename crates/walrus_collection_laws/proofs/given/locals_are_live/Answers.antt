@@ -1,5 +1,0 @@
-use Rattle.walrus_collection_laws.proofs.GivenLemmas.{locals_live}
-use Rattle.walrus_collection_laws.proofs.given.locals_are_live.Goals as goal
-
-pub returns : goal.returns
-returns c = locals_live c.args.functions.now

@@ -1,8 +1,0 @@
-use Rattle.std.proofs.Common.{◌∙◌}
-use Rattle.walrus_module_items.specs.declared.function.Function.{Function}
-use Rattle.walrus_collection_laws.proofs.OwnIdLemmas.{add_edits, if_ok, if_both}
-use Rattle.walrus_collection_laws.proofs.own_ids.add_function.Goals as goal
-
-pub returns : goal.returns
-returns c =
-    add_edits (λ (x : Function). x.id) c.args.functions.now c.add_local.new.self c.add_local.result (if_ok c.add_local.result _ _ (if_both c.add_local.result _ _ c.add_local.ensures.id c.add_local.ensures.added) (λ a p. (p.1.0, p.1.1.id_is ∙ p.0, p.1.2))) c.add_local.ensures.refused

@@ -1,9 +1,0 @@
-use Rattle.walrus_linked_edits.proofs.ReplacedExport as E
-use Rattle.walrus_linked_edits.proofs.ReplacedImport as I
-use Rattle.walrus_linked_edits.proofs.replaces_keep_linked.Goals as goal
-
-pub returns : goal.returns
-returns g c = record {
-  exported = λ build function id m n r stands l. E.replaced_linked g.F.FnOnce build function id m n r stands l;
-  imported = λ build function m n r stands l. I.replaced_linked g.F.FnOnce build function m n r stands l;
-}

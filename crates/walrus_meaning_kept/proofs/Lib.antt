@@ -1,5 +1,0 @@
-mod Functions
-mod Kept
-mod Low
-mod Owned
-mod Types

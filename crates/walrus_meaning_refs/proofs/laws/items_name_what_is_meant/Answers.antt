@@ -1,5 +1,0 @@
-use Rattle.walrus_meaning_refs.proofs.Items.{items_meant}
-use Rattle.walrus_meaning_refs.proofs.laws.items_name_what_is_meant.Goals as goal
-
-pub returns : goal.returns
-returns c = items_meant c.expressions_tell_their_operators.ensures

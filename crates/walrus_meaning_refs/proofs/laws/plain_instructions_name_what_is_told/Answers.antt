@@ -1,5 +1,0 @@
-use Rattle.walrus_meaning_refs.proofs.PlainLemmas.{plain_told}
-use Rattle.walrus_meaning_refs.proofs.laws.plain_instructions_name_what_is_told.Goals as goal
-
-pub returns : goal.returns
-returns c = plain_told c.names_are_told.ensures

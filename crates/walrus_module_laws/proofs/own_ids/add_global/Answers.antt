@@ -1,0 +1,7 @@
+use Rattle.walrus_module_items.specs.declared.global.Global.{Global}
+use Rattle.walrus_module_laws.proofs.OwnIdLemmas.{add_edits, if_ok, if_both}
+use Rattle.walrus_module_laws.proofs.own_ids.add_global.Goals as goal
+
+pub returns : goal.returns
+returns c =
+    add_edits (λ (x : Global). x.id) c.args.globals.now c.add_local.new.self c.add_local.result (if_ok c.add_local.result _ _ (if_both c.add_local.result _ _ c.add_local.ensures.id c.add_local.ensures.added) (λ a p. (_, p.0, p.1))) c.add_local.ensures.refused

@@ -1,0 +1,8 @@
+use Rattle.std.proofs.Common.{◌∙◌}
+use Rattle.walrus_module_items.specs.declared.memory.Memory.{Memory}
+use Rattle.walrus_module_laws.proofs.OwnIdLemmas.{add_edits, if_ok, if_both}
+use Rattle.walrus_module_laws.proofs.own_ids.add_imported_memory.Goals as goal
+
+pub returns : goal.returns
+returns c =
+    add_edits (λ (x : Memory). x.id) c.args.memories.now c.add_import.new.self c.add_import.result (if_ok c.add_import.result _ _ (if_both c.add_import.result _ _ c.add_import.ensures.id c.add_import.ensures.added) (λ a p. (p.1.0, p.1.1.id_is ∙ p.0, p.1.2))) c.add_import.ensures.refused

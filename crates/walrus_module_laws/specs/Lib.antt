@@ -1,0 +1,4 @@
+pub mod Edits
+pub mod Changes
+pub mod Given
+pub mod Imports

@@ -1,5 +1,0 @@
-mod WrittenLemmas
-mod PlaceLemmas
-mod NumberLemmas
-mod NameLemmas
-mod TextLemmas

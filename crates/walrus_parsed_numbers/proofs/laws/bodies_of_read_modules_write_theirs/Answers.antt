@@ -1,5 +1,0 @@
-use Rattle.walrus_parsed_numbers.proofs.TextLemmas.{bodies_write}
-use Rattle.walrus_parsed_numbers.proofs.laws.bodies_of_read_modules_write_theirs.Goals as goal
-
-pub returns : goal.returns
-returns g c = bodies_write c.bodies_of_read_modules_have_their_numbers.ensures c.bodies_of_read_modules_mean_theirs.ensures c.bodies_are_meant.ensures c.renamings_compose.ensures

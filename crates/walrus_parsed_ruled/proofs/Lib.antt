@@ -1,7 +1,0 @@
-mod HandlerLemmas
-mod ItemLemmas
-mod PlaceLemmas
-mod FunctionLemmas
-mod RuledLemmas
-mod SentNames
-mod SentLemmas

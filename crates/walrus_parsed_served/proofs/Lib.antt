@@ -1,9 +1,0 @@
-mod NameLemmas
-mod FileLemmas
-mod BodyLemmas
-mod StayLemmas
-mod ServedLemmas
--- Passed on to crates above, which then list this one alone.
-pub use Rattle.walrus_parsed_groups.proofs.walrus_parsed_linked as walrus_parsed_linked
-pub use Rattle.walrus_passes_laws.proofs as walrus_passes_laws
-pub use Rattle.walrus_sent_laws.proofs as walrus_sent_laws

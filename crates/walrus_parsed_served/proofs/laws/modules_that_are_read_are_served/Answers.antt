@@ -1,5 +1,0 @@
-use Rattle.walrus_parsed_served.proofs.ServedLemmas.{are_served}
-use Rattle.walrus_parsed_served.proofs.laws.modules_that_are_read_are_served.Goals as goal
-
-pub returns : goal.returns
-returns g c = are_served c.types_of_read_modules_stay_in_groups.ensures c.modules_that_are_read_are_linked.ensures c.linked_are_served.ensures

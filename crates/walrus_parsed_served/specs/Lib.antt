@@ -1,7 +1,0 @@
-pub mod Stays
-pub mod Served
--- Passed on to crates above, which then list this one alone.
-pub use Rattle.walrus_parsed_groups.specs as walrus_parsed_groups
-pub use Rattle.walrus_parsed_groups.specs.walrus_parsed_linked as walrus_parsed_linked
-pub use Rattle.walrus_passes_laws.specs as walrus_passes_laws
-pub use Rattle.walrus_sent_laws.specs as walrus_sent_laws

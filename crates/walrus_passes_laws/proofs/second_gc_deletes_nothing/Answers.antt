@@ -1,5 +1,0 @@
-use Rattle.walrus_passes_laws.proofs.TwiceLemmas.{gc_twice}
-use Rattle.walrus_passes_laws.proofs.second_gc_deletes_nothing.Goals as goal
-
-pub returns : goal.returns
-returns c = gc_twice

@@ -1,5 +1,0 @@
-use Rattle.walrus_sent_laws.proofs.MovedRules.{moved_meet_rules}
-use Rattle.walrus_sent_laws.proofs.laws.moved_modules_meet_rules.Goals as goal
-
-pub returns : goal.returns
-returns c = moved_meet_rules
