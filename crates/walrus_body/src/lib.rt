@@ -70,7 +70,7 @@ pub mod laws {
 
         /// Instructions, and the operators that they are paired with.
         pub mod pairing {
-            pub use walrus_emission_laws::body_trees::meaning::names_are_told;
+            pub use walrus_body_laws::body_trees::meaning::names_are_told;
             pub use walrus_pairing::laws::{
                 forms_are_told, instructions_come_back, operators_are_sent,
             };
@@ -80,13 +80,12 @@ pub mod laws {
     /// Bodies: their grammar, their normal form, what each operator of a body that is read asks and does, the trees that are read, and
     /// what is written of them.
     pub mod bodies {
+        pub use walrus_body_laws::body_steps::laws as steps;
+        pub use walrus_body_laws::body_trees::laws as trees;
+        pub use walrus_body_laws::local_numbers::laws as locals;
+        pub use walrus_body_laws::{emission, writing};
         pub use walrus_body_operands::laws as operands;
         pub use walrus_body_rules::laws as rules;
-        pub use walrus_emission_laws::body_laws::laws as writing;
-        pub use walrus_emission_laws::body_steps::laws as steps;
-        pub use walrus_emission_laws::body_trees::laws as trees;
-        pub use walrus_emission_laws::laws as emission;
-        pub use walrus_emission_laws::local_numbers::laws as locals;
         pub use wasm_body_grammar::laws as grammar;
         pub use wasm_normal_form::laws as normal_form;
         pub use wasm_normal_laws::normal_bodies_are_normal;
@@ -94,8 +93,8 @@ pub mod laws {
 
     /// Runs: that a body and its normal form have equal traces.
     pub mod runs {
-        pub use walrus_emission_laws::machine::laws as machine;
-        pub use walrus_emission_laws::run_laws::laws as normal_forms;
+        pub use walrus_body_laws::machine::laws as machine;
+        pub use walrus_body_laws::run_laws::laws as normal_forms;
         pub use wasm_run_names::laws as names;
     }
 }

@@ -16,7 +16,7 @@ use Rattle.walrus_pairing.specs.Looks.{Look, Or}
 use Rattle.walrus_body_names.specs.Names.{local_in, segment_in, piece_names, text_names}
 use Rattle.walrus_body_names.specs.walrus_body_writer.Spelled.{label, written, bytes_of, pair_of, text_places, IsWritten}
 use Rattle.walrus_body_names.specs.walrus_body_writer.walrus_body_text.Visiting.{weight, text_size}
-use Rattle.walrus_body_laws.specs.Laws.{place_in, placed_of, text_ops, true_pairs, BytesAgree, PlacesAgree, SizesAgree}
+use Rattle.walrus_body_laws.specs.WritingLaws.{place_in, placed_of, text_ops, true_pairs, BytesAgree, PlacesAgree, SizesAgree}
 use Rattle.walrus_body_laws.specs.Naming.{instr_role, locals_of, segments_of, segments_named, Told, LocalsAgree, SegmentsAgree}
 use Rattle.walrus_body_laws.proofs.Telling.{told}
 

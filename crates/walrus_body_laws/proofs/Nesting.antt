@@ -16,7 +16,7 @@ use Rattle.wasm_normal_form.specs.Roles.{Placed, placed, Runs, Opens, Turns, End
 use Rattle.wasm_normal_form.specs.Trees.{Tree, Close, Arm, Run, Nest, flat, IsShaped}
 use Rattle.walrus_pairing.specs.Looks.{Look, Or}
 use Rattle.walrus_body_names.specs.walrus_body_writer.Spelled.{Text, written, IsWritten, AreWritten}
-use Rattle.walrus_body_laws.specs.Laws.{place_in, placed_of, text_ops}
+use Rattle.walrus_body_laws.specs.WritingLaws.{place_in, placed_of, text_ops}
 use Rattle.walrus_body_laws.specs.Naming.{instr_role}
 use Rattle.walrus_body_laws.specs.Nesting.{TreesNest}
 use Rattle.walrus_body_laws.proofs.Agreeing.{ToldPiece, piece_role, piece_told}

@@ -32,7 +32,7 @@ use Rattle.walrus_pairing.specs.Sends.{OperatorsAreSent, Sends}
 use Rattle.walrus_pairing.specs.Sent.{found_as, heap_as, value_as}
 use Rattle.walrus_pairing.specs.Laws.{all}
 use Rattle.walrus_body_names.specs.walrus_body_writer.Spelled.{AreWritten, IsWritten, Text, block, branch, cast, clause, clauses, flags, label, opening, type_in, written, written_instr}
-use Rattle.walrus_body_laws.specs.Laws.{place_in, placed_of, text_ops}
+use Rattle.walrus_body_laws.specs.WritingLaws.{place_in, placed_of, text_ops}
 use Rattle.walrus_body_laws.specs.Renaming.{KeepsLabels, TextsAreRenamed, renamed_placed}
 use Rattle.walrus_body_laws.proofs.Agreeing.{ToldPiece, piece_told}
 

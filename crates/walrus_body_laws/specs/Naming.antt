@@ -12,7 +12,7 @@ use Rattle.wasm_normal_form.specs.Bodies.{locals_named, local_in as local_item}
 use Rattle.walrus_pairing.specs.Looks.{Look, Or}
 use Rattle.walrus_body_names.specs.Names.{local_in, segment_in, text_names}
 use Rattle.walrus_body_names.specs.walrus_body_writer.Spelled.{Text, AreWritten}
-use Rattle.walrus_body_laws.specs.Laws.{text_ops}
+use Rattle.walrus_body_laws.specs.WritingLaws.{text_ops}
 
 abbrev pub role_at : OpCode → Role
 role_at code = role_in (flow_of code)

@@ -6,7 +6,7 @@ use Rattle.walrus_tree.specs.Text.{operators}
 use Rattle.wasm_normal_form.specs.Trees.{Tree, NestAs}
 use Rattle.walrus_pairing.specs.Looks.{Look}
 use Rattle.walrus_body_names.specs.walrus_body_writer.Spelled.{AreWritten}
-use Rattle.walrus_body_laws.specs.Laws.{text_ops}
+use Rattle.walrus_body_laws.specs.WritingLaws.{text_ops}
 
 -- the operators that are written for sequences that form a tree nest as one
 abbrev pub TreesNest : Type 0

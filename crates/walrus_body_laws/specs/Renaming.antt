@@ -8,7 +8,7 @@ use Rattle.walrus_pairing.specs.Looks.{Look}
 use Rattle.walrus_pairing.specs.Sends.{Sends}
 use Rattle.walrus_pairing.specs.Laws.{all}
 use Rattle.walrus_body_names.specs.walrus_body_writer.Spelled.{Text, AreWritten}
-use Rattle.walrus_body_laws.specs.Laws.{text_ops}
+use Rattle.walrus_body_laws.specs.WritingLaws.{text_ops}
 
 -- labels are counted, and no map changes them
 abbrev pub KeepsLabels : Renaming → Type 0

@@ -20,7 +20,7 @@ use Rattle.walrus_marks.specs.Chains.{Chain, root, refers}
 use Rattle.walrus_parse_laws.specs.walrus_pairing.Laws.{OperatorComesBack}
 use Rattle.walrus_parse_gc_laws.proofs.InstrLemmas.{IsFine, IsLeaf, Knows, handler_inexact, opened_inexact, run_leaf}
 use Rattle.walrus_parse_gc_laws.proofs.TreeLemmas.{TreeIs}
-use Rattle.walrus_parse_laws.proofs.walrus_body_walks.Meeting.{New, Stays, either_bool, new_back, new_front, new_one, not_both, seen_at, with_cases, with_here, with_stays}
+use Rattle.walrus_parse_laws.proofs.walrus_body_laws.Meeting.{New, Stays, either_bool, new_back, new_front, new_one, not_both, seen_at, with_cases, with_here, with_stays}
 use Rattle.walrus_parse_gc_laws.proofs.ValueLemmas.{InexactType, any_false, or_false, type_false}
 use Rattle.walrus_pass_laws.proofs.BodyLemmas.{of_held}
 use Rattle.walrus_pass_laws.specs.walrus_references.References.{Holds, IsEntry, held, held_in}

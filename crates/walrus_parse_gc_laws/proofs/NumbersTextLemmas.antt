@@ -25,7 +25,7 @@ use Rattle.walrus_parse_laws.specs.walrus_named_bodies.Parsed.{read_features}
 use Rattle.walrus_parse_laws.specs.walrus_body_trees.Laws.{meant, renamed}
 use Rattle.walrus_parse_laws.specs.BodiesTexts.{MeansBody, ReadBodiesMeanTheirs, naming, text_of}
 use Rattle.walrus_body_names.specs.walrus_pairing.Looks.{number_of}
-use Rattle.walrus_emission_laws.specs.Laws.{BodiesAreMeant, sent}
+use Rattle.walrus_body_laws.specs.EmissionLaws.{BodiesAreMeant, sent}
 use Rattle.walrus_parse_laws.specs.Locals.{keys_of}
 use Rattle.walrus_parse_gc_laws.specs.Numbers.{HasNumbers, ReadBodiesHaveTheirNumbers}
 use Rattle.walrus_parse_gc_laws.specs.Texts.{WritesBody, ReadBodiesWriteTheirs}

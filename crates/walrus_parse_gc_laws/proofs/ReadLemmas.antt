@@ -40,7 +40,7 @@ use Rattle.walrus_parse_laws.specs.Files.{ReadModulesHaveHandlers, bodies_handle
 use Rattle.walrus_parse_laws.specs.Groups.{handlers_in}
 use Rattle.walrus_parse_laws.specs.Handlers.{signatures}
 use Rattle.walrus_parse_gc_laws.proofs.InexactItemLemmas.{data_false, element_false, global_false, none_in, table_false}
-use Rattle.walrus_parse_laws.proofs.walrus_body_walks.walrus_body_trees.Bodies.{AreSpelled}
+use Rattle.walrus_parse_laws.proofs.walrus_body_laws.walrus_body_trees.Bodies.{AreSpelled}
 use Rattle.walrus_parse_gc_laws.proofs.StepLemmas.{InexactLocals, step_body, steps_locals}
 use Rattle.walrus_parse_gc_laws.proofs.InexactTextLemmas.{InexactSignatures, codes_so, handled_so, sent_so}
 use Rattle.walrus_parse_gc_laws.proofs.TypeLemmas.{IsPlain, all_fit, file_plain, same_caught, same_results, steps_plain, type_none}

@@ -33,7 +33,7 @@ use Rattle.walrus_parse_laws.specs.walrus_named_bodies.walrus_file_bodies.walrus
 use Rattle.walrus_parse_laws.specs.walrus_named_bodies.walrus_file_bodies.walrus_items_into.walrus_module_env.walrus_collections.walrus_module_items.Functions.{type_of}
 use Rattle.walrus_parse_laws.specs.walrus_pairing.Laws.{OperatorComesBack}
 use Rattle.walrus_parse_laws.proofs.PickLemmas.{stands_as_written}
-use Rattle.walrus_parse_laws.proofs.walrus_body_walks.walrus_body_trees.Bodies.{AreSpelled, all_front, one_fits}
+use Rattle.walrus_parse_laws.proofs.walrus_body_laws.walrus_body_trees.Bodies.{AreSpelled, all_front, one_fits}
 use Rattle.walrus_parse_gc_laws.proofs.InstrLemmas.{IsFine, Knows}
 use Rattle.walrus_parse_gc_laws.proofs.LaidLemmas.{body_inexact}
 use Rattle.walrus_parse_gc_laws.proofs.InexactTextLemmas.{joined}

@@ -22,7 +22,7 @@ use Rattle.walrus_body_names.specs.walrus_pairing.walrus_operators.wasm_operator
 use Rattle.walrus_body_names.specs.walrus_pairing.walrus_operators.wasm_operators.declared.op_code.OpCode.{OpCode}
 use Rattle.walrus_body_names.specs.walrus_pairing.wasm_operators.Items.{Types}
 use Rattle.walrus_body_names.specs.walrus_tree.Text.{Piece, Operator, Else, Catch, CatchAll, Delegate, End, operators}
-use Rattle.walrus_emission_laws.specs.Laws.{LocalsAreMeant}
+use Rattle.walrus_body_laws.specs.EmissionLaws.{LocalsAreMeant}
 use Rattle.walrus_pairing.specs.Laws.{all}
 use Rattle.walrus_parse_laws.specs.walrus_meaning.walrus_module.walrus_builder.Functions.{seqs_of}
 use Rattle.walrus_parse_gc_laws.specs.Numbers.{UsedLocalsAreMeant}

@@ -24,7 +24,7 @@ use Rattle.walrus_parse_laws.specs.walrus_meaning.walrus_linked.walrus_module_it
 use Rattle.walrus_parse_laws.specs.walrus_named_bodies.Parsed.{IsReadAs, read_features}
 use Rattle.walrus_parse_laws.specs.walrus_body_trees.Laws.{renamed}
 use Rattle.walrus_parse_laws.specs.BodiesTexts.{naming}
-use Rattle.walrus_body_laws.specs.Laws.{text_ops}
+use Rattle.walrus_body_laws.specs.WritingLaws.{text_ops}
 use Rattle.walrus_body_laws.specs.Renaming.{KeepsLabels}
 use Rattle.walrus_body_names.specs.walrus_body_writer.Spelled.{AreWritten}
 use Rattle.walrus_body_names.specs.walrus_pairing.Looks.{number_of}

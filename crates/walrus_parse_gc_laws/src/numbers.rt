@@ -3,7 +3,7 @@
 ghost use Rattle.walrus_parse_gc_laws.specs.Numbers.{ReadBodiesHaveTheirNumbers, UsedLocalsAreMeant};
 ghost use Rattle.walrus_parse_gc_laws.specs.Texts.{ReadBodiesWriteTheirs};
 
-use walrus_emission_laws::laws::{bodies_are_meant, locals_are_meant};
+use walrus_body_laws::emission::{bodies_are_meant, locals_are_meant};
 use walrus_local_numbers::laws::numbers_follow;
 use walrus_parse_laws::bodies::{
     bodies_of_read_modules_mean_theirs, functions_of_read_modules_are_whole,

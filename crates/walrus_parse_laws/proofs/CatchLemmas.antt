@@ -5,20 +5,20 @@ use Rattle.std.specs.List.{flat_map}
 use Rattle.std.specs.Option.{option_and_then}
 use Rattle.std.proofs.lemmas.List.{append_assoc, append-nil}
 use Rattle.std.proofs.lemmas.List.Concat.{flat_map-append}
-use Rattle.walrus_body_walks.specs.walrus_pairing.wasm_operators.wasm_features.declared.WasmFeatures.{WasmFeatures}
+use Rattle.walrus_body_laws.specs.walrus_pairing.wasm_operators.wasm_features.declared.WasmFeatures.{WasmFeatures}
 use Rattle.walrus_named_bodies.specs.walrus_file_bodies.walrus_items_into.walrus_module_env.walrus_handler_types.walrus_handler_laws.walrus_body_steps.wasm_normal_form.Trees.{Tree as OpTree, Close, Arm, Skip, Run, Nest}
 use Rattle.wasm_operators.specs.Operators.{Seen, flow_of}
 use Rattle.wasm_operators.specs.declared.entry.Flow.{Flow}
 use Rattle.wasm_operators.specs.declared.entry.Flow.TheVariants as flows
 use Rattle.walrus_forms.specs.declared.value.ValType.{ValType}
-use Rattle.walrus_body_walks.specs.walrus_pairing.walrus_instr.declared.instr.Instr.{Instr}
-use Rattle.walrus_body_walks.specs.walrus_pairing.walrus_instr.declared.seq.InstrLocId.{InstrLocId}
-use Rattle.walrus_body_walks.specs.walrus_pairing.walrus_instr.declared.seq.InstrSeq.{InstrSeq}
-use Rattle.walrus_body_walks.specs.walrus_pairing.walrus_instr.declared.seq.InstrSeqType.{InstrSeqType}
+use Rattle.walrus_body_laws.specs.walrus_pairing.walrus_instr.declared.instr.Instr.{Instr}
+use Rattle.walrus_body_laws.specs.walrus_pairing.walrus_instr.declared.seq.InstrLocId.{InstrLocId}
+use Rattle.walrus_body_laws.specs.walrus_pairing.walrus_instr.declared.seq.InstrSeq.{InstrSeq}
+use Rattle.walrus_body_laws.specs.walrus_pairing.walrus_instr.declared.seq.InstrSeqType.{InstrSeqType}
 use Rattle.walrus_named_bodies.specs.walrus_item_names.walrus_module.walrus_builder.Built.{Seq, seq_of}
 use Rattle.walrus_named_bodies.specs.walrus_file_bodies.walrus_items_into.walrus_module_env.walrus_handler_types.walrus_handler_laws.walrus_tree.walrus_walks.Tree.{children_in, handlers}
 use Rattle.walrus_named_bodies.specs.walrus_file_bodies.walrus_items_into.walrus_module_env.walrus_handler_types.walrus_handler_laws.walrus_tree.Trees.{Has, IsTree, Nothing, Stand, Tree, Trees, ids}
-use Rattle.walrus_body_walks.specs.walrus_pairing.Laws.{OperatorComesBack}
+use Rattle.walrus_body_laws.specs.walrus_pairing.Laws.{OperatorComesBack}
 use Rattle.walrus_named_bodies.specs.walrus_file_bodies.walrus_items_into.walrus_module_env.walrus_handler_types.walrus_handler_laws.walrus_body_steps.walrus_body_nesting.Stands.{Ended, Finish, Handles, HandlesAll, Otherwise, Part, StandsAs, Turn, lies, none, with}
 use Rattle.walrus_named_bodies.specs.walrus_file_bodies.walrus_items_into.walrus_module_env.walrus_handler_types.walrus_handler_laws.walrus_body_steps.walrus_body_rules.Sights.{Sight, handler_of, results_of, tag_params}
 use Rattle.walrus_named_bodies.specs.walrus_file_bodies.walrus_items_into.walrus_module_env.walrus_handler_types.walrus_handler_laws.walrus_body_steps.Meanings.{OpensOf, TurnsTo, meaning}
@@ -28,9 +28,9 @@ use Rattle.walrus_named_bodies.specs.walrus_file_bodies.walrus_items_into.walrus
 use Rattle.walrus_parse_laws.specs.Added.{Signature}
 use Rattle.walrus_parse_laws.specs.Catches.{catches, opened_results, part_signature}
 use Rattle.walrus_parse_laws.specs.Handlers.{signature_of}
-use Rattle.walrus_body_walks.proofs.Fitting.{RunsFit}
-use Rattle.walrus_body_walks.proofs.walrus_body_trees.Instrs.{made_children, seqs_in}
-use Rattle.walrus_body_walks.proofs.walrus_handler_laws.Standing.{PartsTold, makes_told, told_front, written_kept, results_kept}
+use Rattle.walrus_body_laws.proofs.Fitting.{RunsFit}
+use Rattle.walrus_body_laws.proofs.walrus_body_trees.Instrs.{made_children, seqs_in}
+use Rattle.walrus_body_laws.proofs.walrus_handler_laws.Standing.{PartsTold, makes_told, told_front, written_kept, results_kept}
 use Rattle.walrus_parse_laws.proofs.FitLemmas.{run_none}
 use Rattle.walrus_parse_laws.proofs.ToldLemmas.{seen_at}
 

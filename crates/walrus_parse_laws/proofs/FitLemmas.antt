@@ -1,21 +1,21 @@
 -- Lemmas: the tree of a body, and that the instruction of an operator which stands in a sequence holds none itself.
 use Rattle.std.proofs.Common.{ℕ, ◌≡◌, ◌∙◌, inl, inr, List, [], ◌∷◌, map, Some, refl, ap}
-use Rattle.walrus_body_walks.specs.walrus_pairing.wasm_operators.wasm_features.declared.WasmFeatures.{WasmFeatures}
+use Rattle.walrus_body_laws.specs.walrus_pairing.wasm_operators.wasm_features.declared.WasmFeatures.{WasmFeatures}
 use Rattle.walrus_named_bodies.specs.walrus_file_bodies.walrus_items_into.walrus_module_env.walrus_handler_types.walrus_handler_laws.walrus_body_steps.wasm_grammar.Modules as grammar
-use Rattle.walrus_body_walks.specs.walrus_pairing.wasm_operators.Items.{Labels, Item, Names, Byte, Heap, ManyLabels}
+use Rattle.walrus_body_laws.specs.walrus_pairing.wasm_operators.Items.{Labels, Item, Names, Byte, Heap, ManyLabels}
 use Rattle.wasm_operators.specs.Operators.{Seen}
 use Rattle.wasm_operators.specs.Ranges.{OperatorFits}
 use Rattle.walrus_named_bodies.specs.walrus_file_bodies.walrus_items_into.walrus_module_env.walrus_handler_types.walrus_handler_laws.walrus_body_steps.wasm_body_grammar.Bodies.{Parts, body_of}
 use Rattle.walrus_named_bodies.specs.walrus_file_bodies.walrus_items_into.walrus_module_env.walrus_handler_types.walrus_handler_laws.walrus_body_steps.wasm_normal_form.Roles.{placed}
 use Rattle.walrus_named_bodies.specs.walrus_file_bodies.walrus_items_into.walrus_module_env.walrus_handler_types.walrus_handler_laws.walrus_body_steps.wasm_normal_form.Trees.{Tree, tree_of}
-use Rattle.walrus_body_walks.specs.walrus_pairing.walrus_instr.declared.instr.Instr.{Instr}
-use Rattle.walrus_body_walks.specs.walrus_pairing.walrus_instr.declared.instr.Instr.TheVariants as instrs
+use Rattle.walrus_body_laws.specs.walrus_pairing.walrus_instr.declared.instr.Instr.{Instr}
+use Rattle.walrus_body_laws.specs.walrus_pairing.walrus_instr.declared.instr.Instr.TheVariants as instrs
 use Rattle.walrus_named_bodies.specs.walrus_file_bodies.walrus_items_into.walrus_module_env.walrus_handler_types.walrus_handler_laws.walrus_tree.walrus_walks.Tree.{children}
-use Rattle.walrus_body_walks.specs.walrus_pairing.Laws.{OperatorComesBack}
-use Rattle.walrus_body_walks.specs.walrus_pairing.Read.{at, instr_at}
+use Rattle.walrus_body_laws.specs.walrus_pairing.Laws.{OperatorComesBack}
+use Rattle.walrus_body_laws.specs.walrus_pairing.Read.{at, instr_at}
 use Rattle.walrus_named_bodies.specs.walrus_file_bodies.walrus_items_into.walrus_module_env.walrus_handler_types.walrus_handler_laws.walrus_body_steps.walrus_body_rules.Sights.{Sight, look}
 use Rattle.walrus_named_bodies.specs.walrus_file_bodies.walrus_items_into.walrus_module_env.walrus_handler_types.walrus_handler_laws.walrus_body_steps.Meanings.{RunsAs}
-use Rattle.walrus_body_walks.proofs.walrus_body_trees.Instrs.{bytes_have, objects_have, read_stands}
+use Rattle.walrus_body_laws.proofs.walrus_body_trees.Instrs.{bytes_have, objects_have, read_stands}
 
 -- the tree of a body's operators
 abbrev pub body_tree : Parts → Tree

@@ -10,8 +10,8 @@ use Rattle.walrus_named_bodies.specs.walrus_item_names.walrus_module.walrus_buil
 use Rattle.walrus_named_bodies.specs.walrus_file_bodies.walrus_items_into.walrus_module_env.walrus_handler_types.walrus_handler_laws.declared.handler.Handler.{Handler}
 use Rattle.walrus_named_bodies.specs.walrus_file_bodies.walrus_items_into.walrus_module_env.walrus_handler_types.Giving.{FindsIf, Gives, GivesAt, block_results, caught}
 use Rattle.walrus_named_bodies.proofs.walrus_handler_types.Growing.{at_grows, function_results_grow, given_types_grow, params_grow}
-use Rattle.walrus_body_walks.specs.walrus_pairing.walrus_instr.declared.seq.InstrSeqType.{InstrSeqType}
-use Rattle.walrus_body_walks.specs.walrus_pairing.walrus_instr.declared.seq.InstrSeqType.TheVariants.{Simple, MultiValue}
+use Rattle.walrus_body_laws.specs.walrus_pairing.walrus_instr.declared.seq.InstrSeqType.{InstrSeqType}
+use Rattle.walrus_body_laws.specs.walrus_pairing.walrus_instr.declared.seq.InstrSeqType.TheVariants.{Simple, MultiValue}
 use Rattle.walrus_named_bodies.specs.walrus_item_names.walrus_module.walrus_types.Table.{Table}
 use Rattle.walrus_parse_laws.specs.Added.{Signature}
 use Rattle.walrus_parse_laws.specs.Handlers.{HasTypes, signature_of, signatures}

@@ -23,16 +23,16 @@ use Rattle.walrus_named_bodies.specs.walrus_file_bodies.walrus_items_into.walrus
 use Rattle.walrus_named_bodies.specs.walrus_file_bodies.walrus_items_into.walrus_module_env.walrus_handler_types.walrus_handler_laws.walrus_body_steps.wasm_grammar.Modules as grammar
 use Rattle.walrus_named_bodies.specs.walrus_file_bodies.walrus_items_into.walrus_module_env.walrus_handler_types.walrus_handler_laws.walrus_body_steps.wasm_grammar.TypeWords.{heap_of, value_of}
 use Rattle.walrus_named_bodies.specs.walrus_file_bodies.walrus_items_into.walrus_module_env.walrus_handler_types.walrus_handler_laws.walrus_body_steps.wasm_normal_form.Trees.{Tree as OpTree, Close, Arm, Skip, Run, Nest}
-use Rattle.walrus_body_walks.specs.walrus_pairing.Types.{read_heap, read_value}
-use Rattle.walrus_body_walks.specs.walrus_pairing.Looks.{Or}
-use Rattle.walrus_body_walks.specs.walrus_pairing.walrus_instr.BlockTypes.{picked}
-use Rattle.walrus_body_walks.specs.walrus_pairing.walrus_instr.declared.instr.Instr.{Instr}
-use Rattle.walrus_body_walks.specs.walrus_pairing.walrus_instr.declared.seq.InstrLocId.{InstrLocId}
-use Rattle.walrus_body_walks.specs.walrus_pairing.walrus_instr.declared.seq.InstrSeqType.{InstrSeqType}
-use Rattle.walrus_body_walks.specs.walrus_pairing.walrus_instr.declared.seq.InstrSeqType.TheVariants.{Simple, MultiValue}
-use Rattle.walrus_body_walks.specs.walrus_pairing.wasm_operators.Items.{Tags, Types}
-use Rattle.walrus_body_walks.specs.walrus_pairing.wasm_operators.declared.block_type.BlockType.{BlockType}
-use Rattle.walrus_body_walks.specs.walrus_pairing.wasm_operators.declared.block_type.BlockType.TheVariants as blocks
+use Rattle.walrus_body_laws.specs.walrus_pairing.Types.{read_heap, read_value}
+use Rattle.walrus_body_laws.specs.walrus_pairing.Looks.{Or}
+use Rattle.walrus_body_laws.specs.walrus_pairing.walrus_instr.BlockTypes.{picked}
+use Rattle.walrus_body_laws.specs.walrus_pairing.walrus_instr.declared.instr.Instr.{Instr}
+use Rattle.walrus_body_laws.specs.walrus_pairing.walrus_instr.declared.seq.InstrLocId.{InstrLocId}
+use Rattle.walrus_body_laws.specs.walrus_pairing.walrus_instr.declared.seq.InstrSeqType.{InstrSeqType}
+use Rattle.walrus_body_laws.specs.walrus_pairing.walrus_instr.declared.seq.InstrSeqType.TheVariants.{Simple, MultiValue}
+use Rattle.walrus_body_laws.specs.walrus_pairing.wasm_operators.Items.{Tags, Types}
+use Rattle.walrus_body_laws.specs.walrus_pairing.wasm_operators.declared.block_type.BlockType.{BlockType}
+use Rattle.walrus_body_laws.specs.walrus_pairing.wasm_operators.declared.block_type.BlockType.TheVariants as blocks
 use Rattle.walrus_named_bodies.specs.walrus_item_names.walrus_module.walrus_builder.Built.{Seq}
 use Rattle.walrus_named_bodies.specs.walrus_item_names.walrus_module.walrus_types.Items.{Item}
 use Rattle.walrus_named_bodies.specs.walrus_item_names.walrus_module.walrus_types.Table.{Table, found_type, type_at}

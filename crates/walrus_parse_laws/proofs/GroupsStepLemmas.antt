@@ -4,7 +4,7 @@ use Rattle.std.specs.Prelude.{IsSome}
 use Rattle.std.specs.List.{AllByRecursion, flat_map}
 use Rattle.std.proofs.lemmas.List.{append_assoc, append-nil}
 use Rattle.std.proofs.lemmas.List.Concat.{flat_map-append}
-use Rattle.walrus_body_walks.specs.walrus_pairing.wasm_operators.wasm_features.declared.WasmFeatures.{WasmFeatures}
+use Rattle.walrus_body_laws.specs.walrus_pairing.wasm_operators.wasm_features.declared.WasmFeatures.{WasmFeatures}
 use Rattle.walrus_named_bodies.specs.walrus_file_bodies.walrus_items_into.walrus_module_env.walrus_handler_types.walrus_handler_laws.walrus_body_steps.wasm_body_grammar.Bodies.{Parts, body}
 use Rattle.walrus_named_bodies.specs.walrus_file_bodies.walrus_items_into.walrus_module_env.walrus_handler_types.walrus_handler_laws.walrus_body_steps.wasm_body_grammar.Rules.{Around}
 use Rattle.walrus_named_bodies.specs.walrus_file_bodies.walrus_items_into.walrus_module_env.walrus_handler_types.walrus_handler_laws.walrus_body_steps.walrus_body_nesting.wasm_formats.Formats.{Small}
@@ -25,18 +25,18 @@ use Rattle.walrus_named_bodies.specs.walrus_file_bodies.walrus_items_into.walrus
 use Rattle.walrus_named_bodies.specs.walrus_file_bodies.walrus_items_into.walrus_module_env.walrus_handler_types.walrus_handler_laws.declared.handler.Handler.{Handler}
 use Rattle.walrus_named_bodies.proofs.walrus_handler_types.Growing.{tree_types_grow}
 use Rattle.walrus_named_bodies.specs.walrus_file_bodies.walrus_items_into.walrus_module_env.walrus_handler_types.Giving.{block_results, caught, tree_handlers}
-use Rattle.walrus_body_walks.specs.walrus_pairing.walrus_instr.declared.seq.InstrSeqType.{InstrSeqType}
-use Rattle.walrus_body_walks.specs.walrus_pairing.walrus_instr.declared.seq.InstrSeqType.TheVariants.{Simple, MultiValue}
+use Rattle.walrus_body_laws.specs.walrus_pairing.walrus_instr.declared.seq.InstrSeqType.{InstrSeqType}
+use Rattle.walrus_body_laws.specs.walrus_pairing.walrus_instr.declared.seq.InstrSeqType.TheVariants.{Simple, MultiValue}
 use Rattle.walrus_named_bodies.specs.walrus_file_bodies.walrus_items_into.walrus_tables_into.walrus_sections_into.walrus_known_sections.Items.{chunk_of}
 use Rattle.walrus_named_bodies.specs.walrus_file_bodies.walrus_module_bodies.Steps.{IsStep, State, Steps, cursor_of}
 use Rattle.walrus_named_bodies.specs.walrus_file_bodies.walrus_module_bodies.declared.file.FileEnv.{FileEnv}
-use Rattle.walrus_body_walks.specs.walrus_pairing.Laws.{OperatorComesBack}
+use Rattle.walrus_body_laws.specs.walrus_pairing.Laws.{OperatorComesBack}
 use Rattle.walrus_named_bodies.specs.walrus_item_names.walrus_module.walrus_types.Table.{Table}
 use Rattle.walrus_parse_laws.specs.Added.{Signature}
 use Rattle.walrus_parse_laws.specs.Groups.{handlers_in}
 use Rattle.walrus_parse_laws.specs.Handlers.{HasTypes, signatures}
-use Rattle.walrus_body_walks.proofs.walrus_body_trees.Bodies.{AreSpelled}
-use Rattle.walrus_body_walks.proofs.Fitting.{spelled_fits}
+use Rattle.walrus_body_laws.proofs.walrus_body_trees.Bodies.{AreSpelled}
+use Rattle.walrus_body_laws.proofs.Fitting.{spelled_fits}
 use Rattle.walrus_parse_laws.proofs.FitLemmas.{body_tree}
 use Rattle.walrus_parse_laws.proofs.GivenLemmas.{all_stay, stands_given}
 use Rattle.walrus_parse_laws.proofs.GroupsTableLemmas.{Stands, stands_entered}

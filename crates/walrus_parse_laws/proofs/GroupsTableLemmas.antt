@@ -13,9 +13,9 @@ use Rattle.walrus_forms.specs.Records.{TypeGroup}
 use Rattle.walrus_forms.specs.Same.{same_kind}
 use Rattle.walrus_forms.proofs.EqLemmas.{same-kind-law}
 use Rattle.walrus_function_types.proofs.GrowthLemmas.{front}
-use Rattle.walrus_body_walks.specs.walrus_pairing.walrus_instr.BlockTypes.{Makes, picked, short_form}
-use Rattle.walrus_body_walks.specs.walrus_pairing.walrus_instr.declared.seq.InstrSeqType.{InstrSeqType}
-use Rattle.walrus_body_walks.specs.walrus_pairing.walrus_instr.declared.seq.InstrSeqType.TheVariants.{MultiValue}
+use Rattle.walrus_body_laws.specs.walrus_pairing.walrus_instr.BlockTypes.{Makes, picked, short_form}
+use Rattle.walrus_body_laws.specs.walrus_pairing.walrus_instr.declared.seq.InstrSeqType.{InstrSeqType}
+use Rattle.walrus_body_laws.specs.walrus_pairing.walrus_instr.declared.seq.InstrSeqType.TheVariants.{MultiValue}
 use Rattle.walrus_named_bodies.specs.walrus_file_bodies.walrus_items_into.walrus_module_bodies.walrus_body_trees.walrus_meaning.Meaning.{group_kinds, has_kinds, own_groups, plain_kind}
 use Rattle.walrus_named_bodies.specs.walrus_item_names.walrus_module.walrus_types.Items.{Group, Item}
 use Rattle.walrus_named_bodies.specs.walrus_item_names.walrus_module.walrus_types.Table.{Adds, Merges, Table, equal_type, found_type, latest_in, next_id, type_at}

@@ -4,7 +4,7 @@ use Rattle.std.specs.List.{flat_map}
 use Rattle.std.specs.Option.{option_map, option_or}
 use Rattle.walrus_named_bodies.specs.walrus_file_bodies.walrus_items_into.walrus_module_env.walrus_handler_types.walrus_handler_laws.walrus_body_steps.wasm_body_grammar.Bodies.{Parts, body, body_of}
 use Rattle.walrus_named_bodies.specs.walrus_file_bodies.walrus_items_into.walrus_module_env.walrus_handler_types.walrus_handler_laws.walrus_body_steps.wasm_body_grammar.Rules.{Around}
-use Rattle.walrus_body_walks.specs.walrus_pairing.wasm_operators.wasm_features.declared.WasmFeatures.{WasmFeatures}
+use Rattle.walrus_body_laws.specs.walrus_pairing.wasm_operators.wasm_features.declared.WasmFeatures.{WasmFeatures}
 use Rattle.walrus_named_bodies.specs.walrus_file_bodies.walrus_items_into.walrus_module_env.walrus_handler_types.walrus_handler_laws.walrus_body_steps.walrus_body_nesting.wasm_formats.Formats.{Small}
 use Rattle.walrus_named_bodies.specs.walrus_file_bodies.walrus_items_into.walrus_module_env.walrus_handler_types.walrus_handler_laws.walrus_body_steps.wasm_grammar.Modules as grammar
 use Rattle.walrus_named_bodies.specs.walrus_file_bodies.walrus_items_into.walrus_module_env.walrus_handler_types.walrus_handler_laws.walrus_body_steps.wasm_normal_form.Normal.{normal}
@@ -24,11 +24,11 @@ use Rattle.walrus_named_bodies.specs.walrus_file_bodies.walrus_items_into.walrus
 use Rattle.walrus_named_bodies.specs.walrus_file_bodies.walrus_items_into.walrus_module_env.walrus_handler_types.walrus_handler_laws.declared.handler.Handler.{Handler}
 use Rattle.walrus_named_bodies.proofs.walrus_handler_types.Growing.{function_results_grow, params_grow, picks_grow, tree_types_grow}
 use Rattle.walrus_named_bodies.specs.walrus_file_bodies.walrus_items_into.walrus_module_env.walrus_handler_types.Giving.{block_results, caught, tree_handlers}
-use Rattle.walrus_body_walks.specs.walrus_pairing.walrus_index_maps.Maps.{Ids}
+use Rattle.walrus_body_laws.specs.walrus_pairing.walrus_index_maps.Maps.{Ids}
 use Rattle.walrus_named_bodies.specs.walrus_item_names.Names.{bare_type}
-use Rattle.walrus_body_walks.specs.walrus_pairing.walrus_instr.BlockTypes.{picked, short_form}
-use Rattle.walrus_body_walks.specs.walrus_pairing.walrus_instr.declared.seq.InstrSeqType.{InstrSeqType}
-use Rattle.walrus_body_walks.specs.walrus_pairing.walrus_instr.declared.seq.InstrSeqType.TheVariants.{Simple, MultiValue}
+use Rattle.walrus_body_laws.specs.walrus_pairing.walrus_instr.BlockTypes.{picked, short_form}
+use Rattle.walrus_body_laws.specs.walrus_pairing.walrus_instr.declared.seq.InstrSeqType.{InstrSeqType}
+use Rattle.walrus_body_laws.specs.walrus_pairing.walrus_instr.declared.seq.InstrSeqType.TheVariants.{Simple, MultiValue}
 use Rattle.walrus_named_bodies.specs.walrus_file_bodies.walrus_items_into.walrus_tables_into.walrus_sections_into.walrus_known_sections.Items.{chunk_of}
 use Rattle.walrus_named_bodies.specs.walrus_file_bodies.walrus_module_bodies.Envs.{IsEnv}
 use Rattle.walrus_named_bodies.specs.walrus_file_bodies.walrus_module_bodies.Steps.{IsStep, State, Steps, cursor_of}
@@ -36,7 +36,7 @@ use Rattle.walrus_named_bodies.specs.walrus_file_bodies.walrus_module_bodies.dec
 use Rattle.walrus_named_bodies.specs.walrus_file_bodies.walrus_items_into.walrus_module_env.Around.{sight_in}
 use Rattle.walrus_named_bodies.specs.walrus_file_bodies.walrus_items_into.walrus_module_env.Env.{if_own, own_pick, tag_type_at}
 use Rattle.walrus_named_bodies.specs.walrus_file_bodies.walrus_items_into.walrus_module_env.declared.env.ModuleEnv.{ModuleEnv}
-use Rattle.walrus_body_walks.specs.walrus_pairing.Laws.{OperatorComesBack}
+use Rattle.walrus_body_laws.specs.walrus_pairing.Laws.{OperatorComesBack}
 use Rattle.walrus_named_bodies.specs.walrus_item_names.walrus_module.walrus_builder.Built.{contents}
 use Rattle.walrus_named_bodies.specs.walrus_item_names.walrus_module.walrus_types.Table.{Table}
 use Rattle.walrus_parse_laws.specs.Added.{Signature}
@@ -45,8 +45,8 @@ use Rattle.walrus_parse_laws.specs.Handlers.{signature_of, signatures}
 use Rattle.walrus_parse_laws.specs.GroupsTexts.{TellTexts, TellsText}
 use Rattle.walrus_parse_laws.proofs.CatchLemmas.{body_catches, seen_signatures}
 use Rattle.walrus_parse_laws.proofs.GroupsFileLemmas.{all_signatures, same_caught, same_found, same_results}
-use Rattle.walrus_body_walks.proofs.walrus_body_trees.Bodies.{AreSpelled}
-use Rattle.walrus_body_walks.proofs.Fitting.{spelled_fits}
+use Rattle.walrus_body_laws.proofs.walrus_body_trees.Bodies.{AreSpelled}
+use Rattle.walrus_body_laws.proofs.Fitting.{spelled_fits}
 use Rattle.walrus_parse_laws.proofs.FitLemmas.{body_tree}
 use Rattle.walrus_parse_laws.proofs.GivenLemmas.{signatures_stay}
 use Rattle.walrus_parse_laws.proofs.GroupsStepLemmas.{seen_types}

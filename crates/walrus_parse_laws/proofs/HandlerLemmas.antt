@@ -46,9 +46,9 @@ use Rattle.walrus_named_bodies.specs.walrus_file_bodies.walrus_items_into.walrus
 use Rattle.walrus_named_bodies.specs.walrus_file_bodies.walrus_items_into.walrus_module_env.walrus_handler_types.walrus_handler_laws.walrus_body_steps.wasm_normal_form.Normal.{normal}
 use Rattle.walrus_named_bodies.proofs.walrus_handler_types.Growing.{tree_types_grow}
 use Rattle.walrus_named_bodies.specs.walrus_file_bodies.walrus_items_into.walrus_module_env.walrus_handler_types.Giving.{tree_handlers}
-use Rattle.walrus_body_walks.specs.walrus_pairing.Laws.{OperatorComesBack}
-use Rattle.walrus_body_walks.specs.walrus_pairing.walrus_index_maps.Maps.{Ids}
-use Rattle.walrus_body_walks.specs.walrus_pairing.wasm_operators.wasm_features.declared.WasmFeatures.{WasmFeatures}
+use Rattle.walrus_body_laws.specs.walrus_pairing.Laws.{OperatorComesBack}
+use Rattle.walrus_body_laws.specs.walrus_pairing.walrus_index_maps.Maps.{Ids}
+use Rattle.walrus_body_laws.specs.walrus_pairing.wasm_operators.wasm_features.declared.WasmFeatures.{WasmFeatures}
 use Rattle.walrus_named_bodies.specs.Parsed.{read_features}
 use Rattle.walrus_named_bodies.specs.walrus_item_names.Holder.{Holder}
 use Rattle.walrus_named_bodies.specs.walrus_item_names.Names.{bare_type}
@@ -62,8 +62,8 @@ use Rattle.walrus_parse_laws.specs.Groups.{handlers_in, handlers_of}
 use Rattle.walrus_parse_laws.specs.Handlers.{signatures}
 use Rattle.walrus_parse_laws.proofs.CatchLemmas.{body_catches, seen_signatures}
 use Rattle.walrus_parse_laws.proofs.GroupsFileLemmas.{all_signatures}
-use Rattle.walrus_body_walks.proofs.walrus_body_trees.Bodies.{AreSpelled}
-use Rattle.walrus_body_walks.proofs.Fitting.{spelled_fits}
+use Rattle.walrus_body_laws.proofs.walrus_body_trees.Bodies.{AreSpelled}
+use Rattle.walrus_body_laws.proofs.Fitting.{spelled_fits}
 use Rattle.walrus_parse_laws.proofs.FitLemmas.{body_tree}
 use Rattle.walrus_parse_laws.proofs.GivenLemmas.{signatures_stay}
 use Rattle.walrus_parse_laws.proofs.GroupsNamedLemmas.{SeesFile, body_sent, some_is}

@@ -17,8 +17,8 @@ use Rattle.walrus_named_bodies.specs.walrus_file_bodies.walrus_items_into.Number
 use Rattle.walrus_named_bodies.specs.walrus_file_bodies.walrus_items_into.walrus_tables_into.walrus_sections_into.walrus_known_sections.State.{state_of}
 use Rattle.walrus_named_bodies.specs.walrus_file_bodies.walrus_items_into.walrus_tables_into.walrus_sections_into.walrus_known_sections.Types.{kinds_in}
 use Rattle.walrus_named_bodies.specs.walrus_file_bodies.walrus_items_into.walrus_module_bodies.walrus_body_trees.walrus_meaning.walrus_linked.Names.{named_by, names, type_names}
-use Rattle.walrus_body_walks.specs.walrus_marks.Named.{items_of}
-use Rattle.walrus_body_walks.specs.walrus_marks.walrus_walks.Events.{NamesType}
+use Rattle.walrus_body_laws.specs.walrus_marks.Named.{items_of}
+use Rattle.walrus_body_laws.specs.walrus_marks.walrus_walks.Events.{NamesType}
 use Rattle.walrus_named_bodies.specs.walrus_file_bodies.walrus_items_into.walrus_module_bodies.walrus_body_trees.walrus_meaning.walrus_linked.walrus_module.Items.{Lives, LivesIn}
 use Rattle.walrus_named_bodies.specs.walrus_file_bodies.walrus_items_into.walrus_module_bodies.walrus_body_trees.walrus_meaning.walrus_linked.walrus_module.Parts.{Module, parts}
 use Rattle.walrus_named_bodies.specs.Parsed.{read_features}
@@ -26,8 +26,8 @@ use Rattle.walrus_parse_laws.specs.Items.{ReadModulesHaveItems, file_of}
 use Rattle.walrus_parse_laws.proofs.ListLemmas.{AllOf, all_at, all_contains, get_some, some_is}
 use Rattle.walrus_parse_laws.proofs.ItemsTypeLemmas.{type_stands, types_live}
 use Rattle.walrus_named_bodies.specs.walrus_file_bodies.walrus_items_into.walrus_tables_into.walrus_sections.walrus_roots.Items.{item}
-use Rattle.walrus_body_walks.specs.walrus_marks.walrus_instr.walrus_types.Items.{Item as TypeItem}
-use Rattle.walrus_body_walks.specs.walrus_marks.walrus_instr.walrus_types.Table.{type_at}
+use Rattle.walrus_body_laws.specs.walrus_marks.walrus_instr.walrus_types.Items.{Item as TypeItem}
+use Rattle.walrus_body_laws.specs.walrus_marks.walrus_instr.walrus_types.Table.{type_at}
 use Rattle.walrus_named_bodies.specs.walrus_file_bodies.walrus_items_into.walrus_functions_into.walrus_types_into.Into.{NewTypesStand, TypesNameBelow}
 use Rattle.walrus_parse_laws.specs.Types.{NamesOfReadTypesLive}
 use Rattle.walrus_parse_laws.proofs.BodiesRuleLemmas.{NamesBelow, groups_below}

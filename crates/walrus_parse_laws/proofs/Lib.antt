@@ -71,6 +71,6 @@ mod MeaningNameLemmas
 mod SizeLemmas
 mod MeanLemmas
 -- Passed on to crates above, which then list this one alone.
-pub use Rattle.walrus_body_walks.proofs as walrus_body_walks
+pub use Rattle.walrus_body_laws.proofs as walrus_body_laws
 pub use Rattle.walrus_named_bodies.proofs.walrus_file_bodies as walrus_file_bodies
 pub use Rattle.walrus_named_bodies.proofs as walrus_named_bodies

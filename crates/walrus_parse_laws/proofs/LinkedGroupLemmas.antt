@@ -11,9 +11,9 @@ use Rattle.walrus_named_bodies.specs.walrus_file_bodies.walrus_items_into.walrus
 use Rattle.walrus_named_bodies.specs.walrus_file_bodies.walrus_items_into.walrus_module_env.walrus_handler_types.walrus_handler_laws.Handlers.{told_by, tree_ids}
 use Rattle.walrus_named_bodies.specs.walrus_file_bodies.walrus_items_into.walrus_module_env.walrus_handler_types.walrus_handler_laws.declared.handler.Handler.{Handler}
 use Rattle.walrus_linked.proofs.GroupLemmas.{group_written, merged_written}
-use Rattle.walrus_body_walks.specs.walrus_marks.walrus_instr.BlockTypes.{Makes, picked, short_form}
-use Rattle.walrus_body_walks.specs.walrus_marks.walrus_instr.declared.seq.InstrSeqType.{InstrSeqType}
-use Rattle.walrus_body_walks.specs.walrus_marks.walrus_instr.declared.seq.InstrSeqType.TheVariants.{MultiValue}
+use Rattle.walrus_body_laws.specs.walrus_marks.walrus_instr.BlockTypes.{Makes, picked, short_form}
+use Rattle.walrus_body_laws.specs.walrus_marks.walrus_instr.declared.seq.InstrSeqType.{InstrSeqType}
+use Rattle.walrus_body_laws.specs.walrus_marks.walrus_instr.declared.seq.InstrSeqType.TheVariants.{MultiValue}
 use Rattle.walrus_parse_laws.specs.FilledGroups.{AreDeclared}
 use Rattle.walrus_named_bodies.specs.walrus_file_bodies.walrus_items_into.walrus_module_bodies.walrus_body_trees.walrus_meaning.walrus_linked.Linked.{GroupsAreWritten}
 use Rattle.walrus_named_bodies.specs.walrus_file_bodies.walrus_items_into.walrus_module_bodies.walrus_body_trees.walrus_meaning.walrus_linked.walrus_module.walrus_builder.Built.{Seq, contents, seq_of}

@@ -13,8 +13,8 @@ use Rattle.walrus_named_bodies.specs.walrus_file_bodies.walrus_items_into.wasm_m
 use Rattle.walrus_named_bodies.specs.walrus_file_bodies.walrus_items_into.wasm_sections.Within.{ChunksFit}
 use Rattle.walrus_named_bodies.specs.walrus_file_bodies.walrus_items_into.walrus_module_bodies.walrus_body_trees.walrus_meaning.walrus_linked.walrus_body_writer.walrus_pairing.wasm_operators.wasm_features.declared.WasmFeatures.{WasmFeatures}
 use Rattle.walrus_arena.specs.Arena.{item_at}
-use Rattle.walrus_body_walks.specs.Answers.{AllAre}
-use Rattle.walrus_body_walks.specs.Laws.{HandlersHaveAnswers, WalksNameAnswers}
+use Rattle.walrus_body_laws.specs.Answers.{AllAre}
+use Rattle.walrus_body_laws.specs.WalkingLaws.{HandlersHaveAnswers, WalksNameAnswers}
 use Rattle.walrus_named_bodies.specs.walrus_file_bodies.walrus_items_into.walrus_module_bodies.walrus_body_trees.walrus_meaning.walrus_linked.walrus_module.walrus_builder.Functions.{seqs_of}
 use Rattle.walrus_named_bodies.proofs.walrus_file_bodies.StopLemmas.{count_in}
 use Rattle.walrus_named_bodies.specs.walrus_file_bodies.Laws.{BodiesReadFiles}
@@ -38,9 +38,9 @@ use Rattle.walrus_parse_laws.specs.FilledGroups.{ReadTypesAreDeclared}
 use Rattle.walrus_named_bodies.specs.walrus_file_bodies.walrus_items_into.walrus_module_bodies.walrus_body_trees.walrus_meaning.walrus_linked.Linked.{GroupsAreWritten}
 use Rattle.walrus_named_bodies.specs.walrus_file_bodies.walrus_items_into.walrus_module_bodies.walrus_body_trees.walrus_meaning.walrus_linked.Names.{body_events, body_names, function_names, local_names, named_by, names, names_in, type_names, used_types}
 use Rattle.walrus_named_bodies.specs.walrus_file_bodies.walrus_items_into.walrus_module_bodies.walrus_body_trees.walrus_meaning.walrus_linked.walrus_local_function.declared.local_function.LocalFunction.{LocalFunction}
-use Rattle.walrus_body_walks.specs.walrus_marks.Named.{items_of}
-use Rattle.walrus_body_walks.specs.walrus_marks.walrus_walks.Events.{Event, NamesLocal, events_of}
-use Rattle.walrus_body_walks.specs.walrus_marks.walrus_walks.Walk.{body_walk}
+use Rattle.walrus_body_laws.specs.walrus_marks.Named.{items_of}
+use Rattle.walrus_body_laws.specs.walrus_marks.walrus_walks.Events.{Event, NamesLocal, events_of}
+use Rattle.walrus_body_laws.specs.walrus_marks.walrus_walks.Walk.{body_walk}
 use Rattle.walrus_named_bodies.specs.walrus_file_bodies.walrus_items_into.walrus_module_bodies.walrus_body_trees.walrus_meaning.walrus_linked.walrus_module.Items.{Lives, written}
 use Rattle.walrus_named_bodies.specs.walrus_file_bodies.walrus_items_into.walrus_module_bodies.walrus_body_trees.walrus_meaning.walrus_linked.walrus_module.Parts.{Module, parts}
 use Rattle.walrus_named_bodies.specs.walrus_file_bodies.walrus_module_bodies.Steps.{State, state}

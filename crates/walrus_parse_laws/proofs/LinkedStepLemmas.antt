@@ -16,9 +16,9 @@ use Rattle.walrus_named_bodies.specs.walrus_file_bodies.walrus_items_into.walrus
 use Rattle.walrus_named_bodies.specs.walrus_file_bodies.walrus_items_into.wasm_sections.Within.{ChunksFit}
 use Rattle.walrus_named_bodies.specs.walrus_file_bodies.walrus_items_into.walrus_module_env.walrus_handler_types.walrus_body_steps.walrus_body_nesting.Opens.{same}
 use Rattle.walrus_named_bodies.specs.walrus_file_bodies.walrus_items_into.walrus_module_env.walrus_handler_types.walrus_body_steps.walrus_body_rules.Sights.{Sight}
-use Rattle.walrus_body_walks.specs.Answers.{AllAre, AnswersAre, IsAnswer, block_items, value_items, without_handlers}
-use Rattle.walrus_body_walks.specs.Laws.{HandlersHaveAnswers, IsRead as IsReadBy, WalksNameAnswers}
-use Rattle.walrus_body_walks.proofs.Answers.{answers_are, other_answers_are}
+use Rattle.walrus_body_laws.specs.Answers.{AllAre, AnswersAre, IsAnswer, block_items, value_items, without_handlers}
+use Rattle.walrus_body_laws.specs.WalkingLaws.{HandlersHaveAnswers, IsRead as IsReadBy, WalksNameAnswers}
+use Rattle.walrus_body_laws.proofs.Answers.{answers_are, other_answers_are}
 use Rattle.walrus_named_bodies.specs.walrus_file_bodies.walrus_items_into.walrus_module_bodies.walrus_body_trees.walrus_meaning.walrus_linked.walrus_module.walrus_builder.Built.{contents, seq_of}
 use Rattle.walrus_named_bodies.specs.walrus_file_bodies.walrus_items_into.walrus_module_bodies.walrus_body_trees.walrus_meaning.walrus_linked.walrus_module.walrus_builder.Functions.{seqs_of}
 use Rattle.walrus_named_bodies.specs.walrus_file_bodies.Read.{Waits, env_is, env_of, grows_none, read_body_reads, step_filed, step_is_read, step_names, step_on, steps_grow, names_on}
@@ -32,13 +32,13 @@ use Rattle.walrus_named_bodies.proofs.walrus_handler_types.Growing.{tree_types_g
 use Rattle.walrus_named_bodies.specs.walrus_file_bodies.walrus_items_into.walrus_module_env.walrus_handler_types.walrus_handler_laws.Handlers.{told_by, tree_ids}
 use Rattle.walrus_named_bodies.specs.walrus_file_bodies.walrus_items_into.walrus_module_env.walrus_handler_types.walrus_handler_laws.declared.handler.Handler.{Handler}
 use Rattle.walrus_named_bodies.specs.walrus_file_bodies.walrus_items_into.walrus_module_bodies.walrus_body_trees.walrus_meaning.walrus_linked.walrus_body_writer.walrus_pairing.walrus_index_maps.Maps.{Ids}
-use Rattle.walrus_body_walks.specs.walrus_marks.walrus_instr.BlockTypes.{picked}
-use Rattle.walrus_body_walks.specs.walrus_marks.walrus_instr.declared.seq.InstrSeqType.{InstrSeqType}
+use Rattle.walrus_body_laws.specs.walrus_marks.walrus_instr.BlockTypes.{picked}
+use Rattle.walrus_body_laws.specs.walrus_marks.walrus_instr.declared.seq.InstrSeqType.{InstrSeqType}
 use Rattle.walrus_types.specs.walrus_items.declared.local.Local.{Local}
 use Rattle.walrus_named_bodies.specs.walrus_file_bodies.walrus_items_into.walrus_tables_into.walrus_sections_into.walrus_known_sections.Items.{chunk_of}
-use Rattle.walrus_body_walks.specs.walrus_marks.Named.{items_of}
-use Rattle.walrus_body_walks.specs.walrus_marks.walrus_walks.Events.{val_names}
-use Rattle.walrus_body_walks.specs.walrus_marks.walrus_walks.Walk.{body_walk}
+use Rattle.walrus_body_laws.specs.walrus_marks.Named.{items_of}
+use Rattle.walrus_body_laws.specs.walrus_marks.walrus_walks.Events.{val_names}
+use Rattle.walrus_body_laws.specs.walrus_marks.walrus_walks.Walk.{body_walk}
 use Rattle.walrus_named_bodies.specs.walrus_file_bodies.walrus_module_bodies.Reading.{AddsRuns, IsReadAside}
 use Rattle.walrus_named_bodies.specs.walrus_file_bodies.walrus_module_bodies.Steps.{IsStep, State, Steps, cursor_of}
 use Rattle.walrus_named_bodies.specs.walrus_file_bodies.walrus_module_bodies.declared.file.FileEnv.{FileEnv}

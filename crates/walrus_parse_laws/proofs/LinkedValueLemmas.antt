@@ -11,9 +11,9 @@ use Rattle.walrus_forms.specs.declared.value.HeapType.TheVariants.{Abstract, Con
 use Rattle.walrus_forms.specs.declared.value.ValType.{ValType}
 use Rattle.walrus_forms.specs.declared.value.ValType.TheVariants.{I32, I64, F32, F64, V128, Ref}
 use Rattle.walrus_function_types.specs.FunctionTypes.{form_params, form_results, params_at, results_at}
-use Rattle.walrus_body_walks.specs.walrus_marks.walrus_instr.declared.seq.InstrSeqType.{InstrSeqType}
-use Rattle.walrus_body_walks.specs.walrus_marks.Named.{items_of}
-use Rattle.walrus_body_walks.specs.walrus_marks.walrus_walks.Events.{Event, NamesType, block_names, events_of, val_names}
+use Rattle.walrus_body_laws.specs.walrus_marks.walrus_instr.declared.seq.InstrSeqType.{InstrSeqType}
+use Rattle.walrus_body_laws.specs.walrus_marks.Named.{items_of}
+use Rattle.walrus_body_laws.specs.walrus_marks.walrus_walks.Events.{Event, NamesType, block_names, events_of, val_names}
 use Rattle.walrus_named_bodies.specs.walrus_file_bodies.walrus_items_into.walrus_tables_into.walrus_sections.walrus_roots.declared.item.Item.{Item}
 use Rattle.walrus_types.specs.Items.{Item as TypeItem}
 use Rattle.walrus_types.specs.Table.{Table, type_at}

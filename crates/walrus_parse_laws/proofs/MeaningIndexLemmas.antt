@@ -13,7 +13,7 @@ use Rattle.walrus_named_bodies.specs.walrus_file_bodies.walrus_items_into.walrus
 use Rattle.walrus_named_bodies.specs.walrus_file_bodies.walrus_items_into.walrus_tables_into.walrus_section_values.declared.globals.Global.{Global as ReadGlobal}
 use Rattle.walrus_named_bodies.specs.walrus_item_names.Names.{bare_global}
 use Rattle.walrus_named_bodies.specs.walrus_item_names.walrus_module.walrus_module_items.declared.global.Global.{Global}
-use Rattle.walrus_body_walks.specs.walrus_pairing.Looks.{Look}
+use Rattle.walrus_body_laws.specs.walrus_pairing.Looks.{Look}
 
 -- ---- bodies
 

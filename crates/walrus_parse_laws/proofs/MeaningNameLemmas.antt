@@ -26,7 +26,7 @@ use Rattle.walrus_named_bodies.specs.walrus_file_bodies.walrus_items_into.walrus
 use Rattle.walrus_named_bodies.specs.walrus_file_bodies.walrus_items_into.walrus_module_env.walrus_handler_types.Giving.{Finds, FindsIf, Gives, GivesAt, block_results, caught}
 use Rattle.walrus_named_bodies.specs.walrus_file_bodies.walrus_items_into.walrus_module_env.walrus_handler_types.walrus_handler_laws.Handlers.{told_by, tree_ids}
 use Rattle.walrus_named_bodies.specs.walrus_file_bodies.walrus_items_into.walrus_module_env.walrus_handler_types.walrus_handler_laws.declared.handler.Handler.{Handler}
-use Rattle.walrus_body_walks.specs.walrus_pairing.walrus_index_maps.Maps.{Ids}
+use Rattle.walrus_body_laws.specs.walrus_pairing.walrus_index_maps.Maps.{Ids}
 use Rattle.walrus_named_bodies.specs.walrus_item_names.walrus_module.walrus_module_items.declared.function.Function.{Function}
 use Rattle.walrus_named_bodies.specs.walrus_item_names.walrus_module.walrus_module_items.declared.function.FunctionKind.TheVariants as kinds
 use Rattle.walrus_named_bodies.specs.walrus_file_bodies.walrus_items_into.walrus_module_bodies.walrus_body_trees.walrus_meaning.walrus_local_function.walrus_body_locals.Locals.{locals_from}
@@ -34,11 +34,11 @@ use Rattle.walrus_named_bodies.specs.walrus_file_bodies.walrus_items_into.walrus
 use Rattle.walrus_named_bodies.specs.walrus_item_names.walrus_module.walrus_types.Groups.{new_items}
 use Rattle.walrus_named_bodies.specs.walrus_item_names.walrus_module.walrus_types.Parsing.{Parsed, added, known_ids, merged, parsed, parsed_group, unparsed}
 use Rattle.walrus_named_bodies.specs.walrus_item_names.walrus_module.walrus_types.Table.{Adds, Merges, Table, equal_type, next_id}
-use Rattle.walrus_body_walks.specs.walrus_pairing.walrus_items.Items.{Item}
-use Rattle.walrus_body_walks.specs.walrus_pairing.walrus_items.declared.local.Local.{Local}
-use Rattle.walrus_body_walks.specs.walrus_pairing.walrus_instr.BlockTypes.{Makes, picked, short_form}
-use Rattle.walrus_body_walks.specs.walrus_pairing.walrus_instr.declared.seq.InstrSeqType.{InstrSeqType}
-use Rattle.walrus_body_walks.specs.walrus_pairing.walrus_instr.declared.seq.InstrSeqType.TheVariants.{MultiValue}
+use Rattle.walrus_body_laws.specs.walrus_pairing.walrus_items.Items.{Item}
+use Rattle.walrus_body_laws.specs.walrus_pairing.walrus_items.declared.local.Local.{Local}
+use Rattle.walrus_body_laws.specs.walrus_pairing.walrus_instr.BlockTypes.{Makes, picked, short_form}
+use Rattle.walrus_body_laws.specs.walrus_pairing.walrus_instr.declared.seq.InstrSeqType.{InstrSeqType}
+use Rattle.walrus_body_laws.specs.walrus_pairing.walrus_instr.declared.seq.InstrSeqType.TheVariants.{MultiValue}
 use Rattle.walrus_parse_laws.proofs.WholeLemmas.{bare_same}
 use Rattle.walrus_named_bodies.specs.walrus_item_names.Gives.{GivesNames}
 use Rattle.walrus_named_bodies.specs.walrus_item_names.Holder.{Holder}

@@ -34,7 +34,7 @@ use Rattle.walrus_named_bodies.specs.walrus_file_bodies.walrus_items_into.walrus
 use Rattle.walrus_parse_laws.specs.Means.{AreApart, LocalIs}
 use Rattle.walrus_named_bodies.specs.walrus_item_names.walrus_module.walrus_module_items.declared.function.Function.{Function}
 use Rattle.walrus_named_bodies.specs.walrus_file_bodies.walrus_items_into.walrus_functions_into.declared.bodies.FunctionBody.{FunctionBody}
-use Rattle.walrus_body_walks.specs.walrus_pairing.walrus_index_maps.Maps.{Ids}
+use Rattle.walrus_body_laws.specs.walrus_pairing.walrus_index_maps.Maps.{Ids}
 use Rattle.walrus_named_bodies.specs.walrus_file_bodies.walrus_module_bodies.Steps.{IsStep, State, Steps}
 use Rattle.walrus_parse_laws.proofs.BodiesSlotLemmas.{NoneOf, set_cases}
 use Rattle.walrus_named_bodies.specs.walrus_file_bodies.Read.{Waits, coded_by, env_is, env_of, grows_none, others_keep, read_body_reads, step_filed, step_on}

@@ -16,14 +16,14 @@ use Rattle.walrus_named_bodies.specs.walrus_file_bodies.walrus_items_into.walrus
 use Rattle.walrus_named_bodies.specs.walrus_file_bodies.walrus_items_into.walrus_functions_into.declared.bodies.FunctionBody.{FunctionBody}
 use Rattle.walrus_parse_laws.specs.FilledGroups.{GroupsMean, ReadTypesAreDeclared, kept}
 use Rattle.walrus_named_bodies.specs.walrus_file_bodies.walrus_items_into.walrus_module_env.walrus_handler_types.walrus_handler_laws.declared.handler.Handler.{Handler}
-use Rattle.walrus_body_walks.specs.walrus_pairing.walrus_index_maps.Maps.{Ids}
+use Rattle.walrus_body_laws.specs.walrus_pairing.walrus_index_maps.Maps.{Ids}
 use Rattle.walrus_named_bodies.specs.walrus_item_names.Holder.{Holder}
 use Rattle.walrus_named_bodies.specs.walrus_item_names.Names.{bare_type}
 use Rattle.walrus_named_bodies.specs.walrus_file_bodies.walrus_items_into.Laws.{FilledFunctionsStand, FilledModulesAreFiled}
 use Rattle.walrus_named_bodies.specs.walrus_file_bodies.walrus_items_into.Numbers.{types_in}
 use Rattle.walrus_named_bodies.specs.walrus_file_bodies.walrus_items_into.walrus_tables_into.walrus_sections_into.walrus_known_sections.State.{state_of}
 use Rattle.walrus_named_bodies.specs.walrus_file_bodies.walrus_module_bodies.Steps.{State, state}
-use Rattle.walrus_body_walks.specs.walrus_pairing.Laws.{OperatorComesBack}
+use Rattle.walrus_body_laws.specs.walrus_pairing.Laws.{OperatorComesBack}
 use Rattle.walrus_named_bodies.specs.Parsed.{read_features}
 use Rattle.walrus_named_bodies.specs.walrus_item_names.walrus_module.walrus_types.Table.{Table}
 use Rattle.walrus_named_bodies.specs.walrus_file_bodies.walrus_items_into.walrus_functions_into.walrus_types_into.Into.{TypesNameBelow}
@@ -32,7 +32,7 @@ use Rattle.walrus_parse_laws.specs.Groups.{ReadModulesHaveGroups, handlers_of}
 use Rattle.walrus_parse_laws.specs.Handlers.{signatures}
 use Rattle.walrus_parse_laws.proofs.GroupsFileLemmas.{all_found, all_signatures, all_types, file_closed, same_groups}
 use Rattle.walrus_parse_laws.proofs.FoundLemmas.{none_missing}
-use Rattle.walrus_body_walks.proofs.walrus_body_trees.Bodies.{AreSpelled}
+use Rattle.walrus_body_laws.proofs.walrus_body_trees.Bodies.{AreSpelled}
 use Rattle.walrus_parse_laws.proofs.GroupsStepLemmas.{steps_stand}
 use Rattle.walrus_parse_laws.proofs.GroupsTableLemmas.{Stands, stands_first}
 

@@ -15,7 +15,7 @@ use Rattle.walrus_named_bodies.specs.walrus_file_bodies.walrus_items_into.wasm_m
 use Rattle.walrus_named_bodies.specs.walrus_file_bodies.walrus_items_into.wasm_module_rules.Linked.{Each}
 use Rattle.walrus_named_bodies.specs.walrus_file_bodies.walrus_items_into.wasm_module_rules.Reading.{entity_kind, kind_number}
 use Rattle.walrus_named_bodies.specs.walrus_file_bodies.walrus_items_into.wasm_module_rules.wasm_modules.Modules.{Reads, module_of}
-use Rattle.walrus_body_walks.specs.walrus_pairing.wasm_operators.wasm_reader.Spelled.{spelled_unsigned}
+use Rattle.walrus_body_laws.specs.walrus_pairing.wasm_operators.wasm_reader.Spelled.{spelled_unsigned}
 use Rattle.wasm_import_links.specs.wasm_ruled_modules.Keeping.{EntriesKeep, file_kept}
 use Rattle.wasm_import_links.specs.wasm_ruled_modules.Named.{room_spells}
 use Rattle.walrus_named_bodies.specs.walrus_file_bodies.walrus_items_into.wasm_sections.Entities.{Entity, FunctionOf, TableOf, MemoryOf, GlobalOf, TagOf, ImportEntry, MemoryType, TableEntry, TableType, add_entity, add_import, add_memory, add_table, entity, import_entry, import_of, initialised, memory_entry, memory_of, memory_once, table_apart, table_entry, table_of, table_once, table_some, table_type, table_wants, with_import}

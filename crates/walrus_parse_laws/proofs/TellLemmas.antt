@@ -17,11 +17,11 @@ use Rattle.walrus_named_bodies.specs.walrus_item_names.Names.{bare_type}
 use Rattle.walrus_named_bodies.specs.walrus_file_bodies.walrus_items_into.Laws.{FilledFunctionsStand, FilledModulesAreFiled}
 use Rattle.walrus_named_bodies.specs.walrus_file_bodies.walrus_items_into.walrus_tables_into.walrus_sections_into.walrus_known_sections.State.{state_of}
 use Rattle.walrus_named_bodies.specs.walrus_file_bodies.walrus_module_bodies.Steps.{State, state}
-use Rattle.walrus_body_walks.specs.walrus_pairing.Laws.{OperatorComesBack}
+use Rattle.walrus_body_laws.specs.walrus_pairing.Laws.{OperatorComesBack}
 use Rattle.walrus_named_bodies.specs.Parsed.{read_features}
 use Rattle.walrus_named_bodies.specs.walrus_item_names.walrus_module.walrus_types.Table.{Table}
 use Rattle.walrus_parse_laws.specs.GroupsTexts.{ReadModulesTellTexts}
-use Rattle.walrus_body_walks.proofs.walrus_body_trees.Bodies.{AreSpelled}
+use Rattle.walrus_body_laws.proofs.walrus_body_trees.Bodies.{AreSpelled}
 use Rattle.walrus_parse_laws.proofs.GroupsTextLemmas.{steps_tell, texts_named}
 
 pub tell_texts : {B : Type 0} → OperatorComesBack → AreSpelled → TreesTell → FilledFunctionsStand B → FilledModulesAreFiled B → EntryTypesGrow → FoundTypesStay → TablesGrowOn → ReadModulesTellTexts B

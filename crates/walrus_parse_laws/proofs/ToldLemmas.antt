@@ -3,21 +3,21 @@ use Rattle.std.proofs.Common.{◌≡◌, ◌∙◌, ℕ, zero, suc, ◌<◌, Boo
 use Rattle.std.specs.Prelude.{◌==◌, IsSome, slice_get, if◌then◌else◌}
 use Rattle.std.specs.List.{AllByRecursion}
 use Rattle.std.specs.Option.{option_map}
-use Rattle.walrus_body_walks.specs.walrus_pairing.wasm_operators.wasm_features.declared.WasmFeatures.{WasmFeatures}
+use Rattle.walrus_body_laws.specs.walrus_pairing.wasm_operators.wasm_features.declared.WasmFeatures.{WasmFeatures}
 use Rattle.walrus_named_bodies.specs.walrus_file_bodies.walrus_items_into.walrus_module_env.walrus_handler_types.walrus_handler_laws.walrus_body_steps.wasm_normal_form.Trees.{Tree as OpTree, Close, Arm, Skip, Run, Nest}
 use Rattle.wasm_operators.specs.Operators.{Seen}
 use Rattle.walrus_forms.specs.declared.value.ValType.{ValType}
-use Rattle.walrus_body_walks.specs.walrus_pairing.walrus_instr.declared.instr.Instr.{Instr}
-use Rattle.walrus_body_walks.specs.walrus_pairing.walrus_instr.declared.instr.Instr.TheVariants as instrs
-use Rattle.walrus_body_walks.specs.walrus_pairing.walrus_instr.declared.instr.LegacyCatch.{LegacyCatch}
-use Rattle.walrus_body_walks.specs.walrus_pairing.walrus_instr.declared.instr.LegacyCatch.TheVariants as legacy
-use Rattle.walrus_body_walks.specs.walrus_pairing.walrus_instr.declared.seq.InstrLocId.{InstrLocId}
-use Rattle.walrus_body_walks.specs.walrus_pairing.walrus_instr.declared.seq.InstrSeq.{InstrSeq}
-use Rattle.walrus_body_walks.specs.walrus_pairing.walrus_instr.declared.seq.InstrSeqType.{InstrSeqType}
+use Rattle.walrus_body_laws.specs.walrus_pairing.walrus_instr.declared.instr.Instr.{Instr}
+use Rattle.walrus_body_laws.specs.walrus_pairing.walrus_instr.declared.instr.Instr.TheVariants as instrs
+use Rattle.walrus_body_laws.specs.walrus_pairing.walrus_instr.declared.instr.LegacyCatch.{LegacyCatch}
+use Rattle.walrus_body_laws.specs.walrus_pairing.walrus_instr.declared.instr.LegacyCatch.TheVariants as legacy
+use Rattle.walrus_body_laws.specs.walrus_pairing.walrus_instr.declared.seq.InstrLocId.{InstrLocId}
+use Rattle.walrus_body_laws.specs.walrus_pairing.walrus_instr.declared.seq.InstrSeq.{InstrSeq}
+use Rattle.walrus_body_laws.specs.walrus_pairing.walrus_instr.declared.seq.InstrSeqType.{InstrSeqType}
 use Rattle.walrus_named_bodies.specs.walrus_item_names.walrus_module.walrus_builder.Built.{Seq, seq_of}
 use Rattle.walrus_named_bodies.specs.walrus_file_bodies.walrus_items_into.walrus_module_env.walrus_handler_types.walrus_handler_laws.walrus_tree.walrus_walks.Tree.{children, children_in, handlers}
 use Rattle.walrus_named_bodies.specs.walrus_file_bodies.walrus_items_into.walrus_module_env.walrus_handler_types.walrus_handler_laws.walrus_tree.Trees.{IsTree, Nothing, Stand, Tree, Trees, ids}
-use Rattle.walrus_body_walks.specs.walrus_pairing.Laws.{OperatorComesBack}
+use Rattle.walrus_body_laws.specs.walrus_pairing.Laws.{OperatorComesBack}
 use Rattle.walrus_named_bodies.specs.walrus_file_bodies.walrus_items_into.walrus_module_env.walrus_handler_types.walrus_handler_laws.walrus_body_steps.walrus_body_nesting.declared.frames.Opener.{Opener}
 use Rattle.walrus_named_bodies.specs.walrus_file_bodies.walrus_items_into.walrus_module_env.walrus_handler_types.walrus_handler_laws.walrus_body_steps.walrus_body_nesting.declared.frames.Opener.TheVariants as openers
 use Rattle.walrus_named_bodies.specs.walrus_file_bodies.walrus_items_into.walrus_module_env.walrus_handler_types.walrus_handler_laws.walrus_body_steps.walrus_body_nesting.Opens.{Makes, type_at}
@@ -27,7 +27,7 @@ use Rattle.walrus_named_bodies.specs.walrus_file_bodies.walrus_items_into.walrus
 use Rattle.walrus_named_bodies.specs.walrus_file_bodies.walrus_items_into.walrus_module_env.walrus_handler_types.walrus_handler_laws.declared.handler.Handler.{Handler}
 use Rattle.walrus_named_bodies.specs.walrus_file_bodies.walrus_items_into.walrus_module_env.walrus_handler_types.walrus_handler_laws.Handlers.{Slot, all_slots, handler_in, part_slots, seq_slots, slots, slots_in, told_by, tree_ids, turn_handler}
 use Rattle.walrus_named_bodies.specs.walrus_file_bodies.walrus_items_into.walrus_module_env.walrus_handler_types.walrus_handler_laws.Retyping.{handler_params}
-use Rattle.walrus_body_walks.proofs.Fitting.{RunsFit}
+use Rattle.walrus_body_laws.proofs.Fitting.{RunsFit}
 use Rattle.walrus_parse_laws.proofs.FitLemmas.{run_none}
 
 -- ---- lists

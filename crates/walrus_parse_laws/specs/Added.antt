@@ -6,7 +6,7 @@ use Rattle.walrus_forms.specs.Kinds.{Kind, function_kind}
 use Rattle.walrus_forms.specs.Records.{TypeGroup}
 use Rattle.walrus_forms.specs.Same.{same_kind}
 use Rattle.walrus_named_bodies.specs.walrus_item_names.walrus_module.walrus_types.Table.{Table}
-use Rattle.walrus_body_walks.specs.walrus_pairing.walrus_instr.BlockTypes.{picked}
+use Rattle.walrus_body_laws.specs.walrus_pairing.walrus_instr.BlockTypes.{picked}
 
 -- what a handler takes and gives: the parameters of the tag that it catches, none if it catches all, and the results of its block
 pub record Signature : Type 0 where

@@ -1,7 +1,7 @@
 -- The handlers of legacy `try`s that stand in the text of a body, in its order.
 use Rattle.std.specs.Prelude.{List, [], ◌∷◌, ◌++◌, Option, Some, None}
 use Rattle.std.specs.Option.{option_and_then}
-use Rattle.walrus_body_walks.specs.walrus_pairing.wasm_operators.Items.{Tags, Item, Names, Block}
+use Rattle.walrus_body_laws.specs.walrus_pairing.wasm_operators.Items.{Tags, Item, Names, Block}
 use Rattle.walrus_named_bodies.specs.walrus_file_bodies.walrus_items_into.walrus_module_env.walrus_handler_types.walrus_handler_laws.walrus_body_steps.wasm_normal_form.Trees.{Tree, Close, Arm, Skip, Run, Nest}
 use Rattle.wasm_operators.specs.Operators.{flow_of}
 use Rattle.wasm_operators.specs.declared.entry.Flow.{Flow}

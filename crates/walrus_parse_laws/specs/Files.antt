@@ -16,10 +16,10 @@ use Rattle.walrus_named_bodies.specs.walrus_file_bodies.walrus_items_into.walrus
 use Rattle.walrus_named_bodies.specs.walrus_file_bodies.walrus_items_into.walrus_module_env.walrus_handler_types.walrus_handler_laws.walrus_body_steps.wasm_normal_form.Normal.{normal}
 use Rattle.walrus_named_bodies.specs.walrus_file_bodies.walrus_items_into.walrus_module_env.walrus_handler_types.walrus_handler_laws.walrus_body_steps.wasm_normal_form.Roles.{placed}
 use Rattle.walrus_named_bodies.specs.walrus_file_bodies.walrus_items_into.walrus_module_env.walrus_handler_types.walrus_handler_laws.walrus_body_steps.wasm_normal_form.Trees.{Tree, Close, Arm, Skip, Run, Nest, tree_of}
-use Rattle.walrus_body_walks.specs.walrus_pairing.walrus_index_maps.Maps.{Ids}
-use Rattle.walrus_body_walks.specs.walrus_pairing.wasm_operators.Items.{Tags, Item, Names, Block}
-use Rattle.walrus_body_walks.specs.walrus_pairing.wasm_operators.declared.block_type.BlockType.{BlockType}
-use Rattle.walrus_body_walks.specs.walrus_pairing.wasm_operators.declared.block_type.BlockType.TheVariants as blocks
+use Rattle.walrus_body_laws.specs.walrus_pairing.walrus_index_maps.Maps.{Ids}
+use Rattle.walrus_body_laws.specs.walrus_pairing.wasm_operators.Items.{Tags, Item, Names, Block}
+use Rattle.walrus_body_laws.specs.walrus_pairing.wasm_operators.declared.block_type.BlockType.{BlockType}
+use Rattle.walrus_body_laws.specs.walrus_pairing.wasm_operators.declared.block_type.BlockType.TheVariants as blocks
 use Rattle.walrus_named_bodies.specs.Parsed.{IsReadAs}
 use Rattle.walrus_named_bodies.specs.walrus_item_names.walrus_module.declared.module.Module.{Module as Whole}
 use Rattle.wasm_operators.specs.Operators.{flow_of}

@@ -24,5 +24,5 @@ pub mod Means
 pub use Rattle.walrus_named_bodies.specs.walrus_file_bodies.walrus_body_trees as walrus_body_trees
 pub use Rattle.walrus_named_bodies.specs.walrus_file_bodies.walrus_items_into.walrus_module_bodies.walrus_body_trees.walrus_meaning as walrus_meaning
 pub use Rattle.walrus_named_bodies.specs as walrus_named_bodies
-pub use Rattle.walrus_body_walks.specs.walrus_pairing as walrus_pairing
+pub use Rattle.walrus_body_laws.specs.walrus_pairing as walrus_pairing
 pub use Rattle.walrus_named_bodies.specs.walrus_file_bodies.walrus_items_into.walrus_functions_into.walrus_types_into as walrus_types_into

@@ -11,7 +11,7 @@ use Rattle.wasm_import_links.specs.wasm_ruled_modules.Rules.{around_bodies}
 use Rattle.walrus_named_bodies.specs.walrus_file_bodies.walrus_body_trees.Laws.{renamed}
 use Rattle.walrus_named_bodies.specs.walrus_file_bodies.walrus_items_into.walrus_module_env.wasm_run_names.Picks.{block_pick}
 use Rattle.walrus_parse_laws.specs.FilledGroups.{kept}
-use Rattle.walrus_body_walks.specs.walrus_pairing.walrus_index_maps.Maps.{Ids}
+use Rattle.walrus_body_laws.specs.walrus_pairing.walrus_index_maps.Maps.{Ids}
 use Rattle.walrus_named_bodies.specs.walrus_file_bodies.walrus_items_into.walrus_module_env.walrus_handler_types.walrus_body_steps.wasm_normal_form.Bodies.{normal_body}
 use Rattle.walrus_named_bodies.specs.walrus_file_bodies.walrus_items_into.walrus_module_env.walrus_handler_types.walrus_body_steps.wasm_normal_form.Normal.{normal_ops}
 use Rattle.walrus_named_bodies.specs.walrus_file_bodies.walrus_items_into.walrus_module_env.walrus_handler_types.walrus_body_steps.wasm_normal_form.Roles.{Placed}

@@ -5,8 +5,8 @@ ghost use Rattle.walrus_parse_laws.specs.Groups.{ReadModulesHaveGroups};
 ghost use Rattle.walrus_parse_laws.specs.GroupsTexts.{ReadModulesTellTexts};
 
 use crate::filled_groups::{groups_mean, read_types_are_declared};
-use walrus_body_walks::handler_laws::laws::trees_tell;
-use walrus_body_walks::pairing::laws::operators_come_back;
+use walrus_body_laws::handler_laws::laws::trees_tell;
+use walrus_body_laws::pairing::laws::operators_come_back;
 use walrus_function_types::laws::{entry_types_grow, found_types_stay, tables_grow_on};
 use walrus_named_bodies::file_bodies::items_into::functions_into::types_into::laws::types_name_below;
 use walrus_named_bodies::file_bodies::items_into::laws::{

@@ -33,6 +33,6 @@ pub mod module_env {
 
 pub mod pairing {
     pub mod laws {
-        pub use walrus_body_walks::pairing::laws::operators_come_back;
+        pub use walrus_body_laws::pairing::laws::operators_come_back;
     }
 }

@@ -8,7 +8,7 @@ use crate::bodies::functions_of_read_modules_are_whole;
 use crate::filled::ordered_stay;
 use crate::filled_groups::read_types_are_declared;
 use crate::items::{names_of_read_items_live, read_modules_have_items, read_modules_have_links};
-use walrus_body_walks::laws::{handlers_have_answers, walks_name_answers};
+use walrus_body_laws::walking::{handlers_have_answers, walks_name_answers};
 use walrus_function_types::laws::{entry_types_grow, found_types_stay, tables_grow_on};
 use walrus_named_bodies::file_bodies::items_into::functions_into::types_into::laws::{
     new_types_stand, types_name_below,

@@ -1,5 +1,0 @@
-use Rattle.walrus_body_laws.proofs.Renamed.{texts_renamed}
-use Rattle.walrus_body_laws.proofs.laws.texts_are_renamed.Goals as goal
-
-pub returns : goal.returns
-returns c = texts_renamed c.operators_are_sent.ensures

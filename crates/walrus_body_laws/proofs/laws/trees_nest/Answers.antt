@@ -1,5 +1,0 @@
-use Rattle.walrus_body_laws.proofs.Nesting.{trees_nest}
-use Rattle.walrus_body_laws.proofs.laws.trees_nest.Goals as goal
-
-pub returns : goal.returns
-returns c = trees_nest c.trees_are_nested.ensures c.text_is_plain.ensures.plain c.trees_are_sound.ensures.labels

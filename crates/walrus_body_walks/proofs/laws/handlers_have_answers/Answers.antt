@@ -1,5 +1,0 @@
-use Rattle.walrus_body_walks.proofs.Answers.{handlers_have}
-use Rattle.walrus_body_walks.proofs.laws.handlers_have_answers.Goals as goal
-
-pub returns : goal.returns
-returns c = handlers_have c.tries_have_answers.ensures

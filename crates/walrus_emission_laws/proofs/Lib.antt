@@ -1,4 +1,0 @@
-mod Meant
-mod Read
-mod Named
-mod Runs

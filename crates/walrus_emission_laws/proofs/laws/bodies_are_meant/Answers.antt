@@ -1,5 +1,0 @@
-use Rattle.walrus_emission_laws.proofs.Meant.{bodies_meant}
-use Rattle.walrus_emission_laws.proofs.laws.bodies_are_meant.Goals as goal
-
-pub returns : goal.returns
-returns c = bodies_meant c.texts_are_renamed.ensures

@@ -1,5 +1,0 @@
-use Rattle.walrus_emission_laws.proofs.Read.{read_written}
-use Rattle.walrus_emission_laws.proofs.laws.read_bodies_are_written.Goals as goal
-
-pub returns : goal.returns
-returns c = read_written c.bodies_are_meant.ensures c.bodies_mean_their_normal_form.ensures c.renamings_compose.ensures
