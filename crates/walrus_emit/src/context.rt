@@ -5,29 +5,11 @@ ghost use Rattle.walrus_errors.specs.declared.error.ModuleError.TheVariants as r
 ghost use Rattle.walrus_emit_numbers.specs.Order.{AreWithin};
 
 use std::alloc::Global;
-use std::ops::Range;
-use walrus_arena::FunctionId;
+use walrus_emit_code::Emission;
 use walrus_emit_numbers::{BodyFacts, function_order, number};
 use walrus_errors::{ModuleError, Result, Space};
-use walrus_index_maps::IdsToIndices;
 use walrus_module::Module;
 use walrus_types::{EmittedTypes, IrError, ModuleTypes};
-
-/// What was written of a module so far, without its custom sections.
-#[derive(Drop)]
-pub struct Emission {
-    /// The numbers of its items.
-    pub indices: IdsToIndices,
-    /// The bytes.
-    pub bytes: Vec<u8>,
-    /// The numbers of the locations of operators that have one, each with its place behind the beginning of the code section's contents, in the order in
-    /// which they are written.
-    pub locations: Vec<(u32, u32)>,
-    /// The bodies, without their sizes, behind that beginning, in the order in which they are written.
-    pub ranges: Vec<(FunctionId, Range<usize>)>,
-    /// The beginning of the code section's contents, or 0.
-    pub code_section_start: usize,
-}
 
 /// What is at hand as sections are written: the module, the numbers of its items, the bytes, what is known of its bodies, and the places
 /// of operators.

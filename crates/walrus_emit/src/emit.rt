@@ -3,9 +3,9 @@
 
 ghost use Rattle.walrus_operators.specs.Appended.{Keeps};
 
-use crate::code::emit_functions;
 use crate::context::{EmitContext, emitted_types};
 use walrus_customs::ModuleProducers;
+use walrus_emit_code::{Code, emit_functions};
 use walrus_emit_sections::{
     emit_data, emit_exports, emit_globals, emit_memories, emit_tables, emit_tags,
 };
@@ -95,7 +95,14 @@ impl Emit for ModuleData {
 
 impl Emit for ModuleFunctions {
     fn emit<B>(&self, cx: &mut EmitContext<'_, B>) -> Result<()> {
-        emit_functions(cx, self)
+        let code = Code {
+            locals: &cx.module.locals,
+            functions: self,
+            facts: cx.facts,
+            order: cx.order.as_slice(),
+            keeps_places: cx.module.config().preserve_code_transform,
+        };
+        emit_functions(cx.alloc, &mut cx.emission, &code)
     }
 }
 

@@ -2,7 +2,6 @@
 #![tactic(auto)]
 
 mod checks;
-mod code;
 mod context;
 mod emit;
 mod segment;
@@ -10,8 +9,8 @@ mod transform;
 mod whole;
 
 pub use checks::check_module;
-pub use code::emit_functions;
-pub use context::{Emission, EmitContext};
+pub use context::EmitContext;
 pub use emit::Emit;
 pub use segment::declare;
+pub use walrus_emit_code::Emission;
 pub use whole::{EmitWasm, Emitted, emit_sound};

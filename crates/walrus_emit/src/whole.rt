@@ -6,12 +6,13 @@ ghost use Rattle.walrus_emit.specs.Left.{LeavesDeclared};
 ghost use Rattle.walrus_emit.specs.Listed.{listed};
 
 use crate::checks::check_module;
-use crate::context::{Emission, EmitContext};
+use crate::context::EmitContext;
 use crate::emit::Emit;
 use crate::segment::declare;
 use crate::transform::transform_of;
 use std::alloc::Global;
 use walrus_arena::FunctionId;
+use walrus_emit_code::Emission;
 use walrus_emit_customs::{emit_names, transform_sections, write_sections};
 use walrus_emit_numbers::{BodyFacts, facts_of, names_data};
 use walrus_emit_parts::write_bytes;

@@ -1,0 +1,12 @@
+use Rattle.std.specs.Prelude.{drop}
+use Rattle.walrus_operators.specs.Appended.{Keeps}
+use Rattle.walrus_index_maps.specs.Views.{indices}
+use Rattle.walrus_emit_code.specs.Code.{facts_at}
+use Rattle.walrus_emit_code.proofs.CodeLemmas.{WroteBodies}
+use Rattle.walrus_emit_code.proofs.code.write_bodies.Given as goal
+
+abbrev pub invariant-loop-at : goal.invariant-loop-at
+invariant-loop-at l = record {
+  keeps : Keeps l.fn.emission.bytes.items l.emission.bytes.items;
+  wrote : WroteBodies l.code.locals.now l.code.functions.now (facts_at l.code.facts.now l.order) (facts_at l.code.facts.now (drop l.at-index l.order)) (indices l.fn.emission.indices) (indices l.emission.indices) l.fn.emission.bytes.items l.emission.bytes.items;
+}
