@@ -32,9 +32,9 @@ pub record Rewritten (place : Option ℕ → ℕ) (names producers : Bool) (feat
   pub pairs : MatchOption places (Unit {0}) (λ ps. ArePlaces (place None) (merged_module place features true (handler_groups file) file) n p ps)
 
 -- each item of what was written is reached there, but for types and memories: with `KeptIsLeast` no proper part holds the roots and is closed
-abbrev pub WrittenIsReached : (Option ℕ → ℕ) → (names producers : Bool) → Type 0
-WrittenIsReached place names producers = (features : WasmFeatures) (input bytes : List ℕ) (w : Rewritten place names producers features input bytes None) (space : Space) (n : ℕ) → (space ≡ spaces.«Type» → ⊥)
-    → (space ≡ spaces.Memory → ⊥) → n < count_of w.n space → IsReached (seen_as features w.n) [] (item space n)
+abbrev pub WrittenIsReached : Type 0
+WrittenIsReached = (place : Option ℕ → ℕ) (names producers : Bool) (features : WasmFeatures) (input bytes : List ℕ) (places : Option (List (ℕ × ℕ))) (w : Rewritten place names producers features input bytes places)
+    (space : Space) (n : ℕ) → (space ≡ spaces.«Type» → ⊥) → (space ≡ spaces.Memory → ⊥) → n < count_of w.n space → IsReached (seen_as features w.n) [] (item space n)
 
 -- what was rewritten twice is rewritten as it is. Once isn't enough: locals of types that are named stand by the old numbers of these, which the order of types
 -- may turn around
