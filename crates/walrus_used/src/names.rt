@@ -70,8 +70,9 @@ fn meet_exprs(marks: &mut Marks, exprs: &[ConstExpr])
 fn meet_init(marks: &mut Marks, table: &Table)
     ensures { marks.new ≡ fold meet marks.old (init_items (table_init table.now)) }
 {
-    if let Some(init) = table_init(table) {
-        marks.meet_told(init);
+    match table_init(table) {
+        Some(init) => marks.meet_told(init),
+        None => {}
     }
 }
 
