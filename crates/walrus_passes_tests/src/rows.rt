@@ -2,7 +2,7 @@
 use crate::modules::{Step, leave};
 
 // Steps, and how many types, functions, tables, elements and imports they leave.
-const ROWS: [(&[Step], [usize; 5]); 26] = [
+const ROWS: [(&[Step], [usize; 5]); 27] = [
     // A table that is exported keeps its segment, with the function and its type.
     (
         &[
@@ -219,6 +219,17 @@ const ROWS: [(&[Step], [usize; 5]); 26] = [
             Step::Gc(0),
         ],
         [0, 0, 0, 0, 0],
+    ),
+    // An imported table has no initialiser: a function in that field isn't kept, and may be deleted.
+    (
+        &[
+            Step::Function,
+            Step::ImportedTable(0),
+            Step::ExportTable(0),
+            Step::Gc(0),
+            Step::Gc(0),
+        ],
+        [0, 0, 1, 0, 1],
     ),
     // A type may name itself and those before it, and none past its own group.
     (
