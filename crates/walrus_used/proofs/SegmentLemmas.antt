@@ -139,7 +139,7 @@ module _ (m : Module) where
 
 -- ---- those that are roots
 abbrev pub rooted_at : Module → ℕ → Element → Item → Type 0
-rooted_at m id e y = Contains (rooted_element m.tables id e.kind) y
+rooted_at m id e y = Contains (rooted_element m.config.keep_segments m.tables id e.kind) y
 
 -- just those below this number
 abbrev pub RootedBelow : Module → ℕ → List Item → Type 0
@@ -149,10 +149,10 @@ module _ (m : Module) where
   pub none_rooted : (rooted : List Item) → rooted ≡ [] → RootedBelow m 0 rooted
   none_rooted rooted is = just_none (IsPickedAt (rooted_at m) m.elements) rooted is
 
-  pub more_rooted : (n : ℕ) (rooted others : List Item) (element : Element) → item_at m.elements n ≡ Some element → others ≡ rooted ++ rooted_element m.tables n element.kind → RootedBelow m n rooted → RootedBelow m (n + 1) others
+  pub more_rooted : (n : ℕ) (rooted others : List Item) (element : Element) → item_at m.elements n ≡ Some element → others ≡ rooted ++ rooted_element m.config.keep_segments m.tables n element.kind → RootedBelow m n rooted → RootedBelow m (n + 1) others
   more_rooted n rooted others element at to h =
-      just_more (IsPickedAt (rooted_at m) m.elements) n rooted (rooted_element m.tables n element.kind) others to h
-      (picked_just (rooted_at m) m.elements n element (rooted_element m.tables n element.kind) at (λ x. (λ c. c, λ c. c)))
+      just_more (IsPickedAt (rooted_at m) m.elements) n rooted (rooted_element m.config.keep_segments m.tables n element.kind) others to h
+      (picked_just (rooted_at m) m.elements n element (rooted_element m.config.keep_segments m.tables n element.kind) at (λ x. (λ c. c, λ c. c)))
 
   pub dead_rooted : (n : ℕ) (rooted : List Item) → (IsLive m.elements n → ⊥) → RootedBelow m n rooted → RootedBelow m (n + 1) rooted
   dead_rooted n rooted dead h = just_skip (IsPickedAt (rooted_at m) m.elements) n rooted (λ x p. dead_picks (rooted_at m) m.elements n x dead p) h
