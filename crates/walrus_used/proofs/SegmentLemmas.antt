@@ -1,5 +1,5 @@
 -- Segments by table.
-use Rattle.std.proofs.Common.{◌≡◌, ◌∙◌, ◌⊎◌, ◌+◌, ◌<◌, ◌≤◌, ℕ, List, [], ◌∷◌, ◌++◌, length, map, get_or, Option, Some, None, Contains, refl, sym, ap, subst, inl, inr, arith}
+use Rattle.std.proofs.Common.{◌≡◌, ◌∙◌, ◌⊎◌, ◌+◌, ◌<◌, ◌≤◌, ℕ, Bool, List, [], ◌∷◌, ◌++◌, length, map, get_or, Option, Some, None, Contains, refl, sym, ap, subst, inl, inr, arith}
 use Rattle.std.specs.Prelude.{IsSome, MatchOption, replicate}
 use Rattle.std.proofs.Math.ListN.{set, length-set}
 use Rattle.std.proofs.lemmas.List.{get_or-map, map-set, get_or-set_same, get_or-set_other, get_or_past, set_past, get_or-replicate, length-replicate}
@@ -149,9 +149,10 @@ module _ (m : Module) where
   pub none_rooted : (rooted : List Item) → rooted ≡ [] → RootedBelow m 0 rooted
   none_rooted rooted is = just_none (IsPickedAt (rooted_at m) m.elements) rooted is
 
-  pub more_rooted : (n : ℕ) (rooted others : List Item) (element : Element) → item_at m.elements n ≡ Some element → others ≡ rooted ++ rooted_element m.config.keep_segments m.tables n element.kind → RootedBelow m n rooted → RootedBelow m (n + 1) others
-  more_rooted n rooted others element at to h =
-      just_more (IsPickedAt (rooted_at m) m.elements) n rooted (rooted_element m.config.keep_segments m.tables n element.kind) others to h
+  pub more_rooted : (n : ℕ) (rooted others : List Item) (element : Element) (keep : Bool) → keep ≡ m.config.keep_segments → item_at m.elements n ≡ Some element → others ≡ rooted ++ rooted_element keep m.tables n element.kind → RootedBelow m n rooted
+      → RootedBelow m (n + 1) others
+  more_rooted n rooted others element keep asked at to h =
+      just_more (IsPickedAt (rooted_at m) m.elements) n rooted (rooted_element m.config.keep_segments m.tables n element.kind) others (to ∙ ap (λ (b : Bool). rooted ++ rooted_element b m.tables n element.kind) asked) h
       (picked_just (rooted_at m) m.elements n element (rooted_element m.config.keep_segments m.tables n element.kind) at (λ x. (λ c. c, λ c. c)))
 
   pub dead_rooted : (n : ℕ) (rooted : List Item) → (IsLive m.elements n → ⊥) → RootedBelow m n rooted → RootedBelow m (n + 1) rooted

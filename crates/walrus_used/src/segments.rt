@@ -76,13 +76,18 @@ pub(crate) fn element_segments<B>(alloc: Global, input: &Module<B>) -> Result<Se
 {
     let mut active = empty_lists(alloc, input.tables.next_id().index())?;
     let mut rooted: Vec<Item> = Vec::new(alloc);
-    let keep = input.config().keep_segments;
     for index in 0..input.elements.next_id().index() {
         let id = ElementId::from_index(index);
         if input.elements.contains(id) {
             let kind = &input.elements.get(id).kind;
             list_segment(&mut active, id, kind)?;
-            list_rooted(&mut rooted, keep, &input.tables, id, kind)?;
+            list_rooted(
+                &mut rooted,
+                input.config().keep_segments,
+                &input.tables,
+                id,
+                kind,
+            )?;
         }
     }
     Ok(Segments { active, rooted })
