@@ -59,7 +59,7 @@ use Rattle.walrus_roots.specs.Items.{item, space_number}
 use Rattle.walrus_marks.specs.Chains.{root, refers}
 use Rattle.walrus_marks.specs.Named.{event_items, items_of}
 use Rattle.walrus_passes.specs.walrus_refusals.walrus_used.walrus_references.References.{RefersIn, Named, KindNames, HasElement, HasData, IsActiveIn, IsCopiedInto, type_items, function_items, table_items, init_items, global_items, value_items, tag_items, element_items, place_items, held_items, data_items, local_items, named_by as referred_by}
-use Rattle.walrus_passes.specs.walrus_refusals.walrus_used.walrus_references.Roots.{Root, exports, starts, is_active, fills_import, declares, is_pushed}
+use Rattle.walrus_passes.specs.walrus_refusals.walrus_used.walrus_references.Roots.{Root, exports, starts, is_active, fills_import, fills_any, declares, is_pushed}
 use Rattle.walrus_passes.specs.walrus_refusals.walrus_used.walrus_references.Kept.{IsReached}
 use Rattle.walrus_passes.specs.walrus_refusals.walrus_used.walrus_references.Refused.{IsTreeIn, HasTree, FormsTree}
 use Rattle.walrus_passes.proofs.walrus_used.LooksLemmas.{none_in, first_in, only_in, cases_in}
@@ -325,6 +325,7 @@ module _ (plain : WalkIsPlain) (held : HeldAreNested) (nested : TreesAreNested) 
   root_fine x (starts f is) = low spaces.Function f (omega arith) (linked.started f is)
   root_fine x (is_active d memory offset segment at is) = low spaces.Data d (omega arith) (there (item_at m.data_segments d) segment at)
   root_fine x (fills_import e t offset segment table at is of brings) = low spaces.Element e (omega arith) (there (item_at m.elements e) segment at)
+  root_fine x (fills_any e t offset segment all at is) = low spaces.Element e (omega arith) (there (item_at m.elements e) segment at)
   root_fine x (declares e segment at is) = low spaces.Element e (omega arith) (there (item_at m.elements e) segment at)
   root_fine x (is_pushed y c) = plainly x (push x c).1 (push x c).0
 

@@ -484,6 +484,16 @@ fn are_taken(
 /// Whether each gc among these steps answers what it is to, and they leave so many types, functions, tables, elements
 /// and imports.
 pub(crate) fn leave(alloc: Global, steps: &[Step], counts: [usize; 5]) -> Result<bool, AllocError> {
-    let mut module = Module::with_config(alloc, ModuleConfig::new());
+    leave_with(alloc, ModuleConfig::new(), steps, counts)
+}
+
+/// The same of a module with these flags.
+pub(crate) fn leave_with(
+    alloc: Global,
+    config: ModuleConfig,
+    steps: &[Step],
+    counts: [usize; 5],
+) -> Result<bool, AllocError> {
+    let mut module = Module::with_config(alloc, config);
     are_taken(alloc, &mut module, steps, counts)
 }

@@ -1,5 +1,5 @@
 -- Lemmas: each item of what is written is reached there.
-use Rattle.std.specs.Prelude.{ℕ, zero, suc, ◌≡◌, ◌⊎◌, ◌<◌, List, [], ◌∷◌, ◌++◌, length, map, Contains, MatchOption, Option, Some, None, IsSome, slice_get, slice_index_or, refl}
+use Rattle.std.specs.Prelude.{ℕ, zero, suc, ◌≡◌, ◌⊎◌, ◌<◌, Bool, List, [], ◌∷◌, ◌++◌, length, map, Contains, MatchOption, Option, Some, None, IsSome, slice_get, slice_index_or, refl}
 use Rattle.std.specs.List.{AllByRecursion}
 use Rattle.std.specs.Option.{option_map}
 use Rattle.std.proofs.Common.{ap, sym, ◌∙◌, subst, arith, inl, inr}
@@ -14,7 +14,7 @@ use Rattle.wasm_operators.specs.NameLaws.{NamesAreRenamed}
 use Rattle.wasm_grammar.specs.Modules.{Item, Expr, Origin, Body, Function, Table, Memory, Global, Mode, Passive, Declared, Active, Element, Segment, Module}
 use Rattle.wasm_grammar.specs.States.{count_of}
 use Rattle.wasm_references.specs.References.{Numbered, Refers, RefersIn, HasData, HasElement, IsActiveIn, body_items, element_items, expr_items, function_items, global_items, item, named_by, origin_items, segment_items, tag_items, table_items, value_items}
-use Rattle.wasm_references.specs.Roots.{Root, exports, starts, is_active, fills_import, declares, is_pushed}
+use Rattle.wasm_references.specs.Roots.{Root, exports, starts, is_active, fills_import, fills_any, declares, is_pushed}
 use Rattle.wasm_references.specs.Kept.{IsReached, Kept, refers, root}
 use Rattle.wasm_module_bytes.specs.Bytes.{origin_unplaced, slot_unplaced, without_places}
 use Rattle.wasm_part.specs.Part.{IsIn, Plan, declaring, part, picked, renumbered_body, renumbered_element, renumbered_export, renumbered_function, renumbered_global, renumbered_item, renumbered_memory, renumbered_mode, renumbered_own, renumbered_segment, renumbered_table, renumbered_tag}
@@ -62,7 +62,7 @@ is_item e = ap (λ (i : Item). i.number) e
 
 -- ---- what is kept
 
-module _ (features : WasmFeatures) (v : Numbered) (p : Plan) (n : Module) (kept : HasKept v [] p) (renamed : NamesAreRenamed)
+module _ (features : WasmFeatures) (v : Numbered) (keep : Bool) (p : Plan) (n : Module) (kept : HasKept v keep [] p) (renamed : NamesAreRenamed)
     (no_elements : (k : ℕ) → v.own_elements k ≡ []) (no_data : (k : ℕ) → v.own_data k ≡ []) (whole : without_places n ≡ record (without_places (part p v.filled)) { customs = n.customs }) where
 
   abbrev m : Module
@@ -75,7 +75,7 @@ module _ (features : WasmFeatures) (v : Numbered) (p : Plan) (n : Module) (kept 
   new y = renumbered_item p.renames y
 
   abbrev Reached : Item → Type 0
-  Reached y = IsReached N [] (new y)
+  Reached y = IsReached N keep [] (new y)
 
   tables_are : n.tables ≡ picked (renumbered_table p.renames p.brings) (p.listed Tables) m.tables
   tables_are = ap (λ (k : Module). k.tables) whole
@@ -151,7 +151,7 @@ module _ (features : WasmFeatures) (v : Numbered) (p : Plan) (n : Module) (kept 
   abbrev own_items : (ℕ → Option ValType) → List BlockType → Function → List Item
   own_items locals parts f = origin_items (λ (b : Body). body_items locals b.operators parts) f.origin
 
-  step : (space : FileSpace) (k : ℕ) (y : Item) → RefersIn v space k y → IsReached v [] (item space k) → IsReached v [] y → (IsNoType (item space k) → Reached (item space k)) → IsNoType y → Reached y
+  step : (space : FileSpace) (k : ℕ) (y : Item) → RefersIn v space k y → IsReached v keep [] (item space k) → IsReached v keep [] y → (IsNoType (item space k) → Reached (item space k)) → IsNoType y → Reached y
   step spaces.«Type» k y (group, kind, is, inl c) here there from other = absurd (other (types_only _ y (among _ y c)))
   step spaces.«Type» k y (group, kind, is, inr c) here there from other = absurd (other (types_only group.1 y (among _ y c.1)))
   step spaces.Function k y c here there from other =
@@ -174,7 +174,7 @@ module _ (features : WasmFeatures) (v : Numbered) (p : Plan) (n : Module) (kept 
       elements_so (e, is, inr own) = none_own (v.own_elements k) e (no_elements k) own.0
       elements_so (e, is, inl active) =
           let x = matched (λ (x : Element). IsActiveIn k x.mode) m.elements e active in
-          let has = kept.has ElementSegments e tt (inl (subst (λ (z : Item). IsReached v [] z) is there)) in
+          let has = kept.has ElementSegments e tt (inl (subst (λ (z : Item). IsReached v keep [] z) is there)) in
           (p.renames ElementSegments e, ap (λ (z : Item). new z) is, inl (match_so (λ (x : Element). IsActiveIn (p.renames Tables k) x.mode) n.elements (p.renames ElementSegments e) (renumbered_element p.renames x.0)
           (element_at e x.0 has x.1) (active_so Tables k x.0.mode x.2)))
   step spaces.Memory k y c here there from other =
@@ -186,7 +186,7 @@ module _ (features : WasmFeatures) (v : Numbered) (p : Plan) (n : Module) (kept 
       data_so (d, is, inr own) = none_own (v.own_data k) d (no_data k) own.0
       data_so (d, is, inl active) =
           let x = matched (λ (x : Segment). IsActiveIn k x.mode) m.segments d active in
-          let has = kept.has DataSegments d tt (inl (subst (λ (z : Item). IsReached v [] z) is there)) in
+          let has = kept.has DataSegments d tt (inl (subst (λ (z : Item). IsReached v keep [] z) is there)) in
           (p.renames DataSegments d, ap (λ (z : Item). new z) is, inl (match_so (λ (x : Segment). IsActiveIn (p.renames Memories k) x.mode) n.segments (p.renames DataSegments d) (renumbered_segment p.renames x.0)
           (at_slot (renumbered_segment p.renames) m.segments n.segments DataSegments d x.0 segments_are has x.1) (active_so Memories k x.0.mode x.2)))
   step spaces.Global k y c here there from other =
@@ -212,7 +212,7 @@ module _ (features : WasmFeatures) (v : Numbered) (p : Plan) (n : Module) (kept 
   active_is : (space : Space) (mode : Mode) (into : ℕ) (offset : Expr) → mode ≡ Active into offset → renumbered_mode p.renames space mode ≡ renumbered_mode p.renames space (Active into offset)
   active_is space mode into offset e = ap (λ (x : Mode). renumbered_mode p.renames space x) e
 
-  rooted : (y : Item) → Root m [] y → Reached y
+  rooted : (y : Item) → Root m keep [] y → Reached y
   rooted y (exports e export at) =
       let c = among p.exports e (kept.exports e export at) in
       let i = contained p.exports e c in
@@ -228,7 +228,7 @@ module _ (features : WasmFeatures) (v : Numbered) (p : Plan) (n : Module) (kept 
       root (is_active (p.renames DataSegments d) (p.renames Memories memory) _ (renumbered_segment p.renames segment)
       (at_slot (renumbered_segment p.renames) m.segments n.segments DataSegments d segment segments_are has at) (active_is Memories segment.mode memory offset mode))
   rooted y (fills_import e t offset segment table at mode is imported) =
-      let here : IsReached v [] (item spaces.Element e) = root (fills_import e t offset segment table at mode is imported) in
+      let here : IsReached v keep [] (item spaces.Element e) = root (fills_import e t offset segment table at mode is imported) in
       let names : Contains (named_by element_items (slice_index_or m.elements e None)) (item spaces.Table t) =
       subst (λ (o : Option Element). Contains (named_by element_items o) (item spaces.Table t)) (sym at) (first_named segment t offset mode) in
       let table_in = kept.has Tables t tt (inl (refers here names)) in
@@ -241,18 +241,21 @@ module _ (features : WasmFeatures) (v : Numbered) (p : Plan) (n : Module) (kept 
       still : (o : Option ℕ) → IsSome o → IsSome (option_map p.brings o)
       still None h = absurd cc
       still (Some i) h = refl
+  rooted y (fills_any e t offset segment all at mode) =
+      let has = kept.has ElementSegments e tt (inl (root (fills_any e t offset segment all at mode))) in
+      root (fills_any (p.renames ElementSegments e) (p.renames Tables t) _ (renumbered_element p.renames segment) all (element_at e segment has at) (active_is Tables segment.mode t offset mode))
   rooted y (declares e segment at mode) =
       let has = kept.has ElementSegments e tt (inl (root (declares e segment at mode))) in
       root (declares (p.renames ElementSegments e) (renumbered_element p.renames segment) (element_at e segment has at) (ap (λ (x : Mode). renumbered_mode p.renames Tables x) mode))
   rooted y (is_pushed x c) = absurd (among [] x c)
 
-  pub reached_so : {y : Item} → IsReached v [] y → IsNoType y → Reached y
+  pub reached_so : {y : Item} → IsReached v keep [] y → IsNoType y → Reached y
   reached_so (root {x} r) other = rooted x r
   reached_so (refers {x} {y} h c) other = step x.space x.number y c h (refers h c) (λ named. reached_so h named) other
 
   -- ---- each item
 
-  from_kept : (space : FileSpace) (k : ℕ) → (space ≡ spaces.«Type» → ⊥) → (space ≡ spaces.Memory → ⊥) → Kept v [] (item space k) → Reached (item space k)
+  from_kept : (space : FileSpace) (k : ℕ) → (space ≡ spaces.«Type» → ⊥) → (space ≡ spaces.Memory → ⊥) → Kept v keep [] (item space k) → Reached (item space k)
   from_kept space k other no_memory (inl h) = reached_so h other
   from_kept space k other no_memory (inr h) = absurd (no_memory (ap (λ (i : Item). i.space) h.is))
 
@@ -286,7 +289,7 @@ module _ (features : WasmFeatures) (v : Numbered) (p : Plan) (n : Module) (kept 
       later (inr h) = inr h
 
   module _ (only : (space : Space) (i k : ℕ) → IsListed space → slice_get (p.listed space) i ≡ Some k → p.renames space k ≡ i) where
-    pub each_reached : (space : FileSpace) (i : ℕ) → (space ≡ spaces.«Type» → ⊥) → (space ≡ spaces.Memory → ⊥) → i < count_of n space → IsReached N [] (item space i)
+    pub each_reached : (space : FileSpace) (i : ℕ) → (space ≡ spaces.«Type» → ⊥) → (space ≡ spaces.Memory → ⊥) → i < count_of n space → IsReached N keep [] (item space i)
     each_reached spaces.«Type» i no_type no_memory lt = absurd (no_type refl)
     each_reached spaces.Memory i no_type no_memory lt = absurd (no_memory refl)
     each_reached spaces.Local i no_type no_memory lt = absurd (omega (arith, lt))
@@ -297,31 +300,31 @@ module _ (features : WasmFeatures) (v : Numbered) (p : Plan) (n : Module) (kept 
         sym (length-map n.functions slot_unplaced) ∙ ap (λ (l : List (Option Function)). length l) texts ∙ length-map (picked (renumbered_function p.renames p.brings) (p.listed Functions) m.functions) slot_unplaced
         ∙ length-map (p.listed Functions) (λ (k : ℕ). option_map (renumbered_function p.renames p.brings) (slice_index_or m.functions k None)) in
         let k = at_place (p.listed Functions) i (omega (arith, lt, many)) in
-        subst (λ (j : ℕ). IsReached N [] (item spaces.Function j)) (only Functions i k.0 tt k.1) (from_kept spaces.Function k.0 no_type no_memory (kept.only Functions i k.0 tt k.1))
+        subst (λ (j : ℕ). IsReached N keep [] (item spaces.Function j)) (only Functions i k.0 tt k.1) (from_kept spaces.Function k.0 no_type no_memory (kept.only Functions i k.0 tt k.1))
     each_reached spaces.Table i no_type no_memory lt =
         let k = listed_at (renumbered_table p.renames p.brings) m.tables n.tables (p.listed Tables) i tables_are lt in
-        subst (λ (j : ℕ). IsReached N [] (item spaces.Table j)) (only Tables i k.0 tt k.1) (from_kept spaces.Table k.0 no_type no_memory (kept.only Tables i k.0 tt k.1))
+        subst (λ (j : ℕ). IsReached N keep [] (item spaces.Table j)) (only Tables i k.0 tt k.1) (from_kept spaces.Table k.0 no_type no_memory (kept.only Tables i k.0 tt k.1))
     each_reached spaces.Tag i no_type no_memory lt =
         let k = listed_at (renumbered_tag p.renames p.brings) m.tags n.tags (p.listed Tags) i (ap (λ (k : Module). k.tags) whole) lt in
-        subst (λ (j : ℕ). IsReached N [] (item spaces.Tag j)) (only Tags i k.0 tt k.1) (from_kept spaces.Tag k.0 no_type no_memory (kept.only Tags i k.0 tt k.1))
+        subst (λ (j : ℕ). IsReached N keep [] (item spaces.Tag j)) (only Tags i k.0 tt k.1) (from_kept spaces.Tag k.0 no_type no_memory (kept.only Tags i k.0 tt k.1))
     each_reached spaces.Global i no_type no_memory lt =
         let k = listed_at (renumbered_global p.renames p.brings) m.globals n.globals (p.listed Globals) i globals_are lt in
-        subst (λ (j : ℕ). IsReached N [] (item spaces.Global j)) (only Globals i k.0 tt k.1) (from_kept spaces.Global k.0 no_type no_memory (kept.only Globals i k.0 tt k.1))
+        subst (λ (j : ℕ). IsReached N keep [] (item spaces.Global j)) (only Globals i k.0 tt k.1) (from_kept spaces.Global k.0 no_type no_memory (kept.only Globals i k.0 tt k.1))
     each_reached spaces.Data i no_type no_memory lt =
         let k = listed_at (renumbered_segment p.renames) m.segments n.segments (p.listed DataSegments) i segments_are lt in
-        subst (λ (j : ℕ). IsReached N [] (item spaces.Data j)) (only DataSegments i k.0 tt k.1) (from_kept spaces.Data k.0 no_type no_memory (kept.only DataSegments i k.0 tt k.1))
+        subst (λ (j : ℕ). IsReached N keep [] (item spaces.Data j)) (only DataSegments i k.0 tt k.1) (from_kept spaces.Data k.0 no_type no_memory (kept.only DataSegments i k.0 tt k.1))
     each_reached spaces.Element i no_type no_memory lt =
         go (segment_at (picked (renumbered_element p.renames) (p.listed ElementSegments) m.elements) p.declared i (subst (λ (l : List (Option Element)). i < length l) elements_are lt))
       where
         go : (i < length (picked (renumbered_element p.renames) (p.listed ElementSegments) m.elements))
             ⊎ ((ns : List ℕ) × (slice_index_or (picked (renumbered_element p.renames) (p.listed ElementSegments) m.elements ++ map (λ ns. Some (declaring p.renames ns)) p.declared) i None ≡ Some (declaring p.renames ns)))
-            → IsReached N [] (item spaces.Element i)
+            → IsReached N keep [] (item spaces.Element i)
         go (inl within) =
             let k = listed_at (renumbered_element p.renames) m.elements (picked (renumbered_element p.renames) (p.listed ElementSegments) m.elements) (p.listed ElementSegments) i refl within in
-            subst (λ (j : ℕ). IsReached N [] (item spaces.Element j)) (only ElementSegments i k.0 tt k.1) (from_kept spaces.Element k.0 no_type no_memory (kept.only ElementSegments i k.0 tt k.1))
+            subst (λ (j : ℕ). IsReached N keep [] (item spaces.Element j)) (only ElementSegments i k.0 tt k.1) (from_kept spaces.Element k.0 no_type no_memory (kept.only ElementSegments i k.0 tt k.1))
         go (inr d) = root (declares i (declaring p.renames d.0) (ap (λ (l : List (Option Element)). slice_index_or l i None) elements_are ∙ d.1) refl)
 
 pub written_is_reached : NamesAreRenamed → WrittenIsReached
-written_is_reached renamed place names producers features input bytes places w space i no_type no_memory lt =
+written_is_reached renamed place names producers keep features input bytes places w space i no_type no_memory lt =
     let writes = w.stands.writes in
-    each_reached features (file_seen place features (handler_groups w.file) w.file) w.p w.n writes.kept renamed (λ k. refl) (λ k. refl) w.stands.whole writes.only space i no_type no_memory lt
+    each_reached features (file_seen place features (handler_groups w.file) w.file) keep w.p w.n writes.kept renamed (λ k. refl) (λ k. refl) w.stands.whole writes.only space i no_type no_memory lt
