@@ -5,7 +5,7 @@ use Rattle.wasm_features.specs.declared.WasmFeatures.{WasmFeatures}
 use Rattle.wasm_formats.specs.Stops.{Trouble}
 use Rattle.wasm_formats.specs.Formats.{Small}
 use Rattle.wasm_grammar.specs.Modules.{Module}
-use Rattle.wasm_modules.specs.Modules.{IsShort, Reads, Stops}
+use Rattle.wasm_modules.specs.Modules.{IsShort, Stops}
 use Rattle.wasm_modules.specs.Read.{reads_once, read_dont_stop, read_or_stop}
 use Rattle.wasm_named_modules.specs.Modules.{NamedModule, with_payloads, ReadsNamed, ReadingNames}
 
