@@ -64,7 +64,6 @@ is_item e = ap (λ (i : Item). i.number) e
 
 module _ (features : WasmFeatures) (v : Numbered) (keep : Bool) (p : Plan) (n : Module) (kept : HasKept v keep [] p) (renamed : NamesAreRenamed)
     (no_elements : (k : ℕ) → v.own_elements k ≡ []) (no_data : (k : ℕ) → v.own_data k ≡ []) (whole : without_places n ≡ record (without_places (part p v.filled)) { customs = n.customs }) where
-
   abbrev m : Module
   m = v.filled
 
@@ -158,9 +157,11 @@ module _ (features : WasmFeatures) (v : Numbered) (keep : Bool) (p : Plan) (n : 
       let f = filled_by (function_items (v.local_type k) (v.parts k)) m.functions k y c in
       let g = function_at k f.0 (kept.has Functions k tt (inl here)) f.1 in
       let j = p.renames Functions k in
-      refers (from (λ e. cc)) (named_so (function_items (N.local_type j) (N.parts j)) (function_items (v.local_type k) (v.parts k) f.0) n.functions j g.0 y g.1
-      (λ same. absurd (same refl), goes_wider p.renames (own_items (v.local_type k) (v.parts k) f.0) (own_items (N.local_type j) (N.parts j) g.0) (function_items (N.local_type j) (N.parts j) g.0) (λ z a. inr a)
-      (origin_goes p.renames renamed p.brings (v.local_type k) (N.local_type j) (v.parts k) (N.parts j) f.0.origin g.0.origin g.2)) f.2 other)
+      refers (from (λ e. cc)) (named_so (function_items (N.local_type j) (N.parts j)) (function_items (v.local_type k) (v.parts k) f.0) n.functions j g.0 y g.1 (
+        λ same. absurd (same refl),
+        goes_wider p.renames (own_items (v.local_type k) (v.parts k) f.0) (own_items (N.local_type j) (N.parts j) g.0) (function_items (N.local_type j) (N.parts j) g.0) (λ z a. inr a)
+            (origin_goes p.renames renamed p.brings (v.local_type k) (N.local_type j) (v.parts k) (N.parts j) f.0.origin g.0.origin g.2),
+      ) f.2 other)
   step spaces.Table k y (inl c) here there from other =
       let t = filled_by table_items m.tables k y c in
       refers (from (λ e. cc)) (inl (named_so table_items (table_items t.0) n.tables (p.renames Tables k) (renumbered_table p.renames p.brings t.0) y
@@ -174,9 +175,12 @@ module _ (features : WasmFeatures) (v : Numbered) (keep : Bool) (p : Plan) (n : 
       elements_so (e, is, inr own) = none_own (v.own_elements k) e (no_elements k) own.0
       elements_so (e, is, inl active) =
           let x = matched (λ (x : Element). IsActiveIn k x.mode) m.elements e active in
-          let has = kept.has ElementSegments e tt (inl (subst (λ (z : Item). IsReached v keep [] z) is there)) in
-          (p.renames ElementSegments e, ap (λ (z : Item). new z) is, inl (match_so (λ (x : Element). IsActiveIn (p.renames Tables k) x.mode) n.elements (p.renames ElementSegments e) (renumbered_element p.renames x.0)
-          (element_at e x.0 has x.1) (active_so Tables k x.0.mode x.2)))
+          let has = kept.has ElementSegments e tt (inl (subst (λ (z : Item). IsReached v keep [] z) is there)) in (
+            p.renames ElementSegments e,
+            ap (λ (z : Item). new z) is,
+            inl (match_so (λ (x : Element). IsActiveIn (p.renames Tables k) x.mode) n.elements (p.renames ElementSegments e) (renumbered_element p.renames x.0)
+                (element_at e x.0 has x.1) (active_so Tables k x.0.mode x.2)),
+          )
   step spaces.Memory k y c here there from other =
       let t = matched (λ (t : Memory). HasData v k y) m.memories k c in
       refers (from (λ e. cc)) (match_so (λ (t : Memory). HasData N (p.renames Memories k) (new y)) n.memories (p.renames Memories k) (renumbered_memory p.renames p.brings t.0)
@@ -186,9 +190,12 @@ module _ (features : WasmFeatures) (v : Numbered) (keep : Bool) (p : Plan) (n : 
       data_so (d, is, inr own) = none_own (v.own_data k) d (no_data k) own.0
       data_so (d, is, inl active) =
           let x = matched (λ (x : Segment). IsActiveIn k x.mode) m.segments d active in
-          let has = kept.has DataSegments d tt (inl (subst (λ (z : Item). IsReached v keep [] z) is there)) in
-          (p.renames DataSegments d, ap (λ (z : Item). new z) is, inl (match_so (λ (x : Segment). IsActiveIn (p.renames Memories k) x.mode) n.segments (p.renames DataSegments d) (renumbered_segment p.renames x.0)
-          (at_slot (renumbered_segment p.renames) m.segments n.segments DataSegments d x.0 segments_are has x.1) (active_so Memories k x.0.mode x.2)))
+          let has = kept.has DataSegments d tt (inl (subst (λ (z : Item). IsReached v keep [] z) is there)) in (
+            p.renames DataSegments d,
+            ap (λ (z : Item). new z) is,
+            inl (match_so (λ (x : Segment). IsActiveIn (p.renames Memories k) x.mode) n.segments (p.renames DataSegments d) (renumbered_segment p.renames x.0)
+                (at_slot (renumbered_segment p.renames) m.segments n.segments DataSegments d x.0 segments_are has x.1) (active_so Memories k x.0.mode x.2)),
+          )
   step spaces.Global k y c here there from other =
       let g = filled_by global_items m.globals k y c in
       refers (from (λ e. cc)) (named_so global_items (global_items g.0) n.globals (p.renames Globals k) (renumbered_global p.renames p.brings g.0) y
@@ -238,6 +245,7 @@ module _ (features : WasmFeatures) (v : Numbered) (keep : Bool) (p : Plan) (n : 
     where
       first_named : (x : Element) (t : ℕ) (offset : Expr) → x.mode ≡ Active t offset → Contains (element_items x) (item spaces.Table t)
       first_named x t offset e = contained (element_items x) (item spaces.Table t) (subst (λ (mode : Mode). Among (item spaces.Table t) (element_items (record x { mode = mode }))) (sym e) (inl refl))
+
       still : (o : Option ℕ) → IsSome o → IsSome (option_map p.brings o)
       still None h = absurd cc
       still (Some i) h = refl
