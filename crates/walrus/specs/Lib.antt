@@ -53,6 +53,7 @@ pub use Rattle.walrus_parse_gc_laws.specs.walrus_parse_laws.Linked as ReadLinked
 pub use Rattle.walrus_parse_gc_laws.specs.walrus_parse_laws.Means as ReadMeaning
 pub use Rattle.walrus_parse_gc_laws.specs.Ruled as ReadRuled
 pub use Rattle.walrus_parse_gc_laws.specs.RuledSent as ReadSent
+pub use Rattle.walrus_parse_gc_laws.specs.Handed as ReadHanded
 pub use Rattle.walrus_parse_gc_laws.specs.Moved as SentRules
 pub use Rattle.walrus_parse_gc_laws.specs.SentRuled as SentRuled
 pub use Rattle.walrus_parse_gc_laws.specs.Sent as SentModules
