@@ -48,6 +48,7 @@ pub use Rattle.walrus_pass_laws.specs.walrus_meaning.Words
 pub use Rattle.wasm_modules.specs.Laws as FileLaws
 pub use Rattle.wasm_modules.specs.Modules as FileModules
 pub use Rattle.walrus_parse_gc_laws.specs.walrus_parse_laws.walrus_named_bodies.Parsed as ReadModules
+pub use Rattle.walrus_parse.specs.Nothing as EmptyModules
 pub use Rattle.walrus_parse.specs.Refusals as ReadRefusals
 pub use Rattle.walrus_parse_gc_laws.specs.walrus_parse_laws.Linked as ReadLinked
 pub use Rattle.walrus_parse_gc_laws.specs.walrus_parse_laws.Means as ReadMeaning
