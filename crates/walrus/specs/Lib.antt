@@ -45,12 +45,16 @@ pub use Rattle.walrus_pass_laws.specs.walrus_meaning.Meaning
 pub use Rattle.walrus_pass_laws.specs.walrus_meaning.Segments
 pub use Rattle.walrus_pass_laws.specs.walrus_meaning.Words
 -- Modules that are read.
+pub use Rattle.wasm_modules.specs.Laws as FileLaws
+pub use Rattle.wasm_modules.specs.Modules as FileModules
 pub use Rattle.walrus_parse_gc_laws.specs.walrus_parse_laws.walrus_named_bodies.Parsed as ReadModules
+pub use Rattle.walrus_parse.specs.Nothing as EmptyModules
 pub use Rattle.walrus_parse.specs.Refusals as ReadRefusals
 pub use Rattle.walrus_parse_gc_laws.specs.walrus_parse_laws.Linked as ReadLinked
 pub use Rattle.walrus_parse_gc_laws.specs.walrus_parse_laws.Means as ReadMeaning
 pub use Rattle.walrus_parse_gc_laws.specs.Ruled as ReadRuled
 pub use Rattle.walrus_parse_gc_laws.specs.RuledSent as ReadSent
+pub use Rattle.walrus_parse_gc_laws.specs.Handed as ReadHanded
 pub use Rattle.walrus_parse_gc_laws.specs.Moved as SentRules
 pub use Rattle.walrus_parse_gc_laws.specs.SentRuled as SentRuled
 pub use Rattle.walrus_parse_gc_laws.specs.Sent as SentModules

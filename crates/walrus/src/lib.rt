@@ -60,11 +60,13 @@ pub mod laws {
         };
     }
 
-    /// What a module is that was read: linked, it means its file, and meets the rules; and so does what a callback is handed.
+    /// What a module is that was read: linked, it means its file, and meets the rules; and so does what a callback is handed. Bytes read as one module, or stop with
+    /// one fault at one place.
     pub mod read {
         pub use walrus_parse_gc_laws::parsed_linked::laws::modules_that_are_read_are_linked;
         pub use walrus_parse_gc_laws::parsed_meaning::laws::modules_that_are_read_mean_their_files;
         pub use walrus_parse_gc_laws::{ruled, sent};
+        pub use wasm_modules::laws::{read_dont_stop, read_or_stop, reads_once, stops_once};
     }
 
     /// What is reached is the least that holds the roots and is closed, and is what is reached in the module that is meant.

@@ -1,3 +1,4 @@
+pub mod Nothing
 pub mod Refusals
 pub use Rattle.walrus_named_bodies.specs.Parsed
 -- Passed on to crates above, which then list this one alone.

@@ -1,10 +1,11 @@
 //! A whole module.
 
-ghost use Rattle.std.specs.Prelude.{◌≡◌, IfErr, IfOk};
+ghost use Rattle.std.specs.Prelude.{◌≡◌, IfErr, IfOk, OnErr};
 ghost use Rattle.walrus_named_bodies.specs.walrus_item_names.walrus_module.walrus_body_writer.walrus_pairing.walrus_index_maps.Views.{ids};
 ghost use Rattle.walrus_named_bodies.specs.walrus_file_bodies.walrus_items_into.Spaces.{spaces};
 ghost use Rattle.walrus_named_bodies.specs.Parsed.{IsEmpty, IsModuleOf, read_features};
 ghost use Rattle.walrus_parse.specs.Refusals.{IsRefusal};
+ghost use Rattle.walrus_parse.specs.Nothing.{HasNothing};
 
 use crate::file::read_file;
 use std::alloc::Global;
@@ -106,29 +107,21 @@ fn read_module<B: Drop>(
     Ok((start, producers, maps))
 }
 
-/// Reads the bytes of a module (Core Specification, binary format: modules) into an empty one, with the features that its flags ask for,
-/// or refuses them. All items of the file are in it, under ids that are their numbers, but for types, of which equal ones merge; each
-/// body is in normal form, with the types that handlers of a legacy `try` need; names and producers are those of the file, with the
-/// entry of this tool. The flags are those of the module. Answers which id each index of the file has.
-///
-/// # Errors
-///
-/// `InputTooLong` past 2^30 bytes; else the first fault of the file, at its place; want of memory, in place of what would come behind the header.
-/// The module is then of no use.
-pub fn parse_into<B: Drop>(
+// Reads a file into an empty module, which may hold anything where it is refused.
+fn fill<B: Drop>(
     alloc: Global,
+    config: &ModuleConfig,
     wasm: &[u8],
     module: &mut Module<B>,
 ) -> Result<IndicesToIds>
     requires { IsEmpty (spaces module.old.types module.old.imports module.old.funcs module.old.tables module.old.memories module.old.tags module.old.globals module.old.exports module.old.elements module.old.data_segments module.old.customs) module.old.locals module.old.name }
-    ensures read { IfOk result (λ found. IsModuleOf module.old.config wasm.now module.new.start module.new.producers (spaces module.new.types module.new.imports module.new.funcs module.new.tables module.new.memories module.new.tags module.new.globals module.new.exports module.new.elements module.new.data_segments module.new.customs) module.new.locals module.new.name (ids found)) }
+    ensures read { IfOk result (λ found. IsModuleOf config.now wasm.now module.new.start module.new.producers (spaces module.new.types module.new.imports module.new.funcs module.new.tables module.new.memories module.new.tags module.new.globals module.new.exports module.new.elements module.new.data_segments module.new.customs) module.new.locals module.new.name (ids found)) }
     ensures flags { module.new.config ≡ module.old.config }
-    ensures refused { IfErr result (λ error. IsRefusal (read_features module.old.config) wasm.now error) }
+    ensures refused { IfErr result (λ error. IsRefusal (read_features config.now) wasm.now error) }
 {
-    let config = *module.config();
     let (start, producers, found) = read_module(
         alloc,
-        &config,
+        config,
         wasm,
         &mut module.types,
         &mut module.imports,
@@ -147,4 +140,34 @@ pub fn parse_into<B: Drop>(
     module.start = start;
     module.producers = producers;
     Ok(found)
+}
+
+/// Reads the bytes of a module (Core Specification, binary format: modules) into an empty one, with the features that its flags ask for,
+/// or refuses them. All items of the file are in it, under ids that are their numbers, but for types, of which equal ones merge; each
+/// body is in normal form, with the types that handlers of a legacy `try` need; names and producers are those of the file, with the
+/// entry of this tool. The flags are those of the module. Answers which id each index of the file has.
+///
+/// # Errors
+///
+/// `InputTooLong` past 2^30 bytes; else the first fault of the file, at its place; want of memory, in place of what would come behind the header.
+/// Nothing is in the module then, and its flags stay.
+pub fn parse_into<B: Drop>(
+    alloc: Global,
+    wasm: &[u8],
+    module: &mut Module<B>,
+) -> Result<IndicesToIds>
+    requires { IsEmpty (spaces module.old.types module.old.imports module.old.funcs module.old.tables module.old.memories module.old.tags module.old.globals module.old.exports module.old.elements module.old.data_segments module.old.customs) module.old.locals module.old.name }
+    ensures read { IfOk result (λ found. IsModuleOf module.old.config wasm.now module.new.start module.new.producers (spaces module.new.types module.new.imports module.new.funcs module.new.tables module.new.memories module.new.tags module.new.globals module.new.exports module.new.elements module.new.data_segments module.new.customs) module.new.locals module.new.name (ids found)) }
+    ensures flags { module.new.config ≡ module.old.config }
+    ensures refused { IfErr result (λ error. IsRefusal (read_features module.old.config) wasm.now error) }
+    ensures left { OnErr result (HasNothing module.new) }
+{
+    let config = *module.config();
+    match fill(alloc, &config, wasm, module) {
+        Ok(found) => Ok(found),
+        Err(error) => {
+            *module = Module::with_config(alloc, config);
+            Err(error)
+        }
+    }
 }

@@ -13,6 +13,7 @@ mod FunctionLemmas
 mod RuledLemmas
 mod SentNames
 mod RuledSentLemmas
+mod HandedLemmas
 mod WrittenLemmas
 mod NumbersPlaceLemmas
 mod NumberLemmas

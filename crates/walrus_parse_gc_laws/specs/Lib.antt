@@ -4,6 +4,7 @@ pub mod SentRuled
 pub mod Numbered
 pub mod Ruled
 pub mod RuledSent
+pub mod Handed
 pub mod Numbers
 pub mod Texts
 pub mod Stays

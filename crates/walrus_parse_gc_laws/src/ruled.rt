@@ -1,9 +1,13 @@
 //! Modules that are read mean modules that meet the rules: laws as functions with nothing to do but to call others.
 
+ghost use Rattle.walrus_parse_gc_laws.specs.Handed.{HandedModulesMeanTheirFiles};
 ghost use Rattle.walrus_parse_gc_laws.specs.Ruled.{MeaningsAreMerged, ReadModulesMeanRuledOnes};
 ghost use Rattle.walrus_parse_gc_laws.specs.RuledSent.{ReadModulesAreHandedOn, SentModulesMeanRuledOnes};
 
+use walrus_errors::Result;
+use walrus_index_maps::IndicesToIds;
 use walrus_instr::InstrLocId;
+use walrus_module::Module;
 use walrus_parse_laws::meaning::modules_that_are_read_mean_their_files;
 use walrus_types::laws::parsing_carries_same;
 use wasm_merged_modules::laws::{merged_files_are_ruled, new_kinds_stand_behind};
@@ -48,4 +52,16 @@ pub fn read_modules_are_handed_on<F: FnMut(u32) -> InstrLocId, B>()
 {
     modules_that_are_read_mean_their_files::<B>();
     modules_that_are_read_mean_ruled_ones::<B>();
+}
+
+/// What `parse_with` hands its `on_parse`, whatever that answers: a linked module that means the module of the file, each operator at the answer for its place, and
+/// meets the rules, with the ids that the file's indices name. So it is of a module that is answered, and of one that `on_parse` refuses.
+pub fn handed_modules_mean_their_files<
+    G: FnMut(u32) -> InstrLocId,
+    F: FnOnce(&mut Module<B>, &IndicesToIds) -> Result<()>,
+    B,
+>()
+    ensures { HandedModulesMeanTheirFiles G.step F.FnOnce }
+{
+    read_modules_are_handed_on::<G, B>();
 }

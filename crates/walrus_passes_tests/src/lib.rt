@@ -5,7 +5,11 @@
 #[cfg(test)]
 mod asked;
 #[cfg(test)]
+mod boxed;
+#[cfg(test)]
 mod copies;
+#[cfg(test)]
+mod found;
 #[cfg(test)]
 mod imports;
 #[cfg(test)]
