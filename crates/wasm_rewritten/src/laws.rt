@@ -3,12 +3,14 @@
 ghost use Rattle.wasm_rewritten.specs.Dense.{PartsAreDense};
 ghost use Rattle.wasm_rewritten.specs.Exports.{ExportsStay};
 ghost use Rattle.wasm_rewritten.specs.Orderly.{ReadFilesAreOrderly};
+ghost use Rattle.wasm_rewritten.specs.Rewritten.{WrittenIsReached};
 ghost use Rattle.wasm_rewritten.specs.Ruled.{FilesNameTheirLocals, ReadFilesArePicked, WrittenPartsAreRuled};
 ghost use Rattle.wasm_rewritten.specs.Runs.{CallsAreKept, CorrespondingRuns, EntriesAreKept, KeptIsDecided, PicksKeepThrough, ReadFilesAreAsked, RewrittenRunsCorrespond, WrittenRunsTheSame, WrittenStandsNormal};
 
 use walrus_forms::laws::same_kind_is_equality;
 use wasm_import_links::laws::{read_modules_are_full, read_modules_link};
 use wasm_merged_modules::laws::{merged_files_are_ruled, new_kinds_stand_behind, types_are_merged};
+use wasm_operators::laws::names_are_renamed;
 use wasm_normal_form::laws::{normal_forms_are_normal, trees_are_one};
 use wasm_normal_modules::laws::{
     normal_forms_of_read_modules_are_ruled, numbered_operators_are_normal,
@@ -125,4 +127,12 @@ pub fn exports_stay()
     ensures { ExportsStay }
 {
     read_modules_are_full();
+}
+
+/// Each item of what is written of a file is reached there from a root by a chain of references, but for types and memories: of it no proper part holds the
+/// roots and is closed.
+pub fn written_is_reached()
+    ensures { WrittenIsReached }
+{
+    names_are_renamed();
 }
