@@ -1,29 +1,21 @@
 -- The names of items are found one after another.
-use Rattle.std.specs.Prelude.{ℕ, ◌+◌, ◌≡◌, ◌<◌, ◌≤◌, ◌==◌, zero, suc, Bool, true, false, List, [], ◌∷◌, ◌++◌, length, drop, map, slice_get, slice_index_or, Option, Some, None, IsSome, IsTrue, ◌↔◌, refl}
+use Rattle.std.specs.Prelude.{ℕ, ◌+◌, ◌≡◌, ◌<◌, ◌≤◌, zero, suc, List, [], ◌∷◌, ◌++◌, length, drop, slice_get, slice_index_or, Option, Some, None, refl}
 use Rattle.std.specs.List.{filter_map, flat_map}
-use Rattle.std.specs.Option.{option_and_then, option_map}
-use Rattle.std.specs.Borrow.{Bor}
-use Rattle.std.proofs.Common.{ap, sym, ◌∙◌, subst, append_assoc, append-nil, arith}
-use Rattle.std.proofs.lemmas.Bool.{true≢false}
-use Rattle.std.proofs.lemmas.List.{at_drop_more, drop_all, map-append}
+use Rattle.std.specs.Option.{option_and_then}
+use Rattle.std.proofs.Common.{ap, sym, ◌∙◌, append_assoc, append-nil, arith}
+use Rattle.std.proofs.lemmas.List.{at_drop_more}
 use Rattle.wasm_formats.specs.declared.fault.Space.{Space}
 use Rattle.wasm_formats.specs.declared.fault.Space.TheVariants as spaces
 use Rattle.wasm_name_payloads.specs.Written.{NameMap}
-use Rattle.wasm_name_payloads.specs.Written as payloads
 use Rattle.walrus_index_maps.specs.Maps.{Indices}
 use Rattle.walrus_items.specs.declared.local.Local.{Local}
 use Rattle.walrus_module.specs.Parts.{Module}
-use Rattle.walrus_types.specs.Items.{Item, item_of}
-use Rattle.walrus_types.specs.Table.{Table as Types, IsLive, type_at}
-use Rattle.walrus_types.specs.walrus_items.declared.subtype.Type.{«Type» as TypeItem}
 use Rattle.walrus_types.specs.declared.emit.EmittedTypes.{EmittedTypes}
 use Rattle.walrus_emit_numbers.specs.declared.facts.BodyFacts.{BodyFacts}
-use Rattle.walrus_payload_writers.specs.Names.{entries_of, function_of, functions_of}
+use Rattle.walrus_payload_writers.specs.Names.{entries_of, functions_of}
 use Rattle.walrus_payload_writers.specs.Sections.{items_of, names_of, own_of}
-use Rattle.walrus_payload_writers.specs.declared.entries.FunctionNames.{FunctionNames}
-use Rattle.walrus_payload_writers.specs.declared.entries.NameEntry.{NameEntry}
 use Rattle.walrus_payload_writers.specs.declared.names.Names.{Names}
-use Rattle.walrus_emit_customs.specs.Names.{entry, function_names, local_name, names, names_in, text, type_name}
+use Rattle.walrus_emit_customs.specs.Names.{entry, local_name, names, names_in, text}
 
 -- ---- what was made, with what is made of those that are left, is what is made of all
 

@@ -2,7 +2,7 @@ use Rattle.std.specs.Prelude.{◌≡◌, ◌++◌, drop, slice_get}
 use Rattle.std.specs.List.{filter_map, flat_map}
 use Rattle.walrus_index_maps.specs.Views.{indices}
 use Rattle.walrus_payload_writers.specs.Names.{functions_of}
-use Rattle.walrus_emit_customs.specs.Names.{body_names, local_names}
+use Rattle.walrus_emit_customs.specs.Names.{body_names}
 use Rattle.walrus_emit_customs.proofs.names.local_names.Given as goal
 
 abbrev pub invariant-loop-at : goal.invariant-loop-at
