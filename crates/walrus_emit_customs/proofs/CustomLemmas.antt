@@ -1,13 +1,12 @@
 -- Custom sections are written one behind another.
-use Rattle.std.specs.Prelude.{ℕ, ◌≡◌, ◌⊎◌, Bool, true, false, List, [], ◌∷◌, ◌++◌, Option, Some, None, Result, Ok, Err, refl, string_bytes}
+use Rattle.std.specs.Prelude.{ℕ, ◌≡◌, Bool, true, false, List, [], ◌∷◌, ◌++◌, Option, Some, None, Result, Ok, Err, refl, string_bytes}
 use Rattle.std.specs.List.{flat_map}
 use Rattle.std.specs.Option.{option_and_then}
-use Rattle.std.proofs.Common.{ap, sym, ◌∙◌, subst, inl, inr, append_assoc, append-nil}
+use Rattle.std.proofs.Common.{ap, sym, ◌∙◌, subst, append_assoc, append-nil}
 use Rattle.std.specs.declared.vec.Vec.{Vec}
 use Rattle.std.specs.declared.alloc.Global.{Global}
 use Rattle.wasm_operators.proofs.Keeps.{keeps_all}
 use Rattle.walrus_errors.specs.declared.error.ModuleError.{ModuleError}
-use Rattle.walrus_errors.specs.declared.error.ModuleError.TheVariants.{Memory}
 use Rattle.walrus_customs.specs.declared.customs.RawCustomSection.{RawCustomSection}
 use Rattle.walrus_sections.specs.Answers.{Gives}
 use Rattle.walrus_sections.specs.Refusals.{refusal_of}
@@ -18,7 +17,7 @@ use Rattle.walrus_sections.specs.declared.section.Section.{Section}
 use Rattle.walrus_sections.specs.declared.section.Section.TheVariants.{Raw, Boxed}
 use Rattle.walrus_emit_parts.specs.Due.{Due, Refused, Writes, written}
 use Rattle.walrus_emit_parts.proofs.Lemmas.{lacks_it, refused_front, refused_memory, writes_on}
-use Rattle.walrus_emit_customs.specs.Customs.{any_due, custom, section_due, standing_due, stands_at, told}
+use Rattle.walrus_emit_customs.specs.Customs.{any_due, custom, standing_due, stands_at, told}
 
 -- ---- what a section of a program's own says
 

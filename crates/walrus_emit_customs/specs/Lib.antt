@@ -1,1 +1,3 @@
 pub mod Customs
+pub mod Names
+pub mod Rising
