@@ -66,7 +66,7 @@ module _ (r : Renaming) where
   local_goes None ys = tt
   local_goes (Some ty) ys = types_go (option_to_list (value_name ty)) ys
 
-  name_goes : (locals others : ℕ → Option ValType) (space : Space) (n : ℕ) → Goes (name_items locals space n) (name_items others space (r space n))
+  pub name_goes : (locals others : ℕ → Option ValType) (space : Space) (n : ℕ) → Goes (name_items locals space n) (name_items others space (r space n))
   name_goes locals others Types n = (λ other. absurd (other refl), tt)
   name_goes locals others Functions n = (λ other. inl refl, tt)
   name_goes locals others Tables n = (λ other. inl refl, tt)
@@ -103,12 +103,12 @@ module _ (r : Renaming) where
   value_goes locals written.V128 ys = tt
   value_goes locals (written.Ref ty) ys = heap_goes locals ty.heap_type ys
 
-  block_goes : (locals : ℕ → Option ValType) (ty : BlockType) (ys : List Item) → Goes (names_items locals (block_names ty)) ys
+  pub block_goes : (locals : ℕ → Option ValType) (ty : BlockType) (ys : List Item) → Goes (names_items locals (block_names ty)) ys
   block_goes locals blocks.Empty ys = tt
   block_goes locals (blocks.Value ty) ys = value_goes locals ty ys
   block_goes locals (blocks.Type n) ys = (λ other. absurd (other refl), tt)
 
-  blocks_go : (locals : ℕ → Option ValType) (tys : List BlockType) (ys : List Item) → Goes (flat_map (λ (ty : BlockType). names_items locals (block_names ty)) tys) ys
+  pub blocks_go : (locals : ℕ → Option ValType) (tys : List BlockType) (ys : List Item) → Goes (flat_map (λ (ty : BlockType). names_items locals (block_names ty)) tys) ys
   blocks_go locals [] ys = tt
   blocks_go locals (ty ∷ tys) ys =
       all_join (λ (y : Item). IsNoType y → Among (renumbered_item r y) ys) (names_items locals (block_names ty)) (flat_map (λ (ty : BlockType). names_items locals (block_names ty)) tys)
@@ -119,17 +119,17 @@ module _ (r : Renaming) where
     operator_goes locals others op =
         subst (λ (ns : List Name). Goes (names_items locals (operator_names op)) (names_items others ns)) (sym (renamed r op)) (names_go locals others (operator_names op))
 
-    expr_goes : (ops : Expr) → Goes (expr_items ops) (expr_items (renumbered_expr r ops))
+    pub expr_goes : (ops : Expr) → Goes (expr_items ops) (expr_items (renumbered_expr r ops))
     expr_goes [] = tt
     expr_goes (op ∷ ops) =
         goes_both (names_items no_locals (operator_names op)) (names_items no_locals (operator_names (renamed_operator r op))) (expr_items ops) (expr_items (renumbered_expr r ops))
         (operator_goes no_locals no_locals op) (expr_goes ops)
 
-    exprs_go : (es : List Expr) → Goes (flat_map expr_items es) (flat_map expr_items (map (renumbered_expr r) es))
+    pub exprs_go : (es : List Expr) → Goes (flat_map expr_items es) (flat_map expr_items (map (renumbered_expr r) es))
     exprs_go [] = tt
     exprs_go (e ∷ es) = goes_both (expr_items e) (expr_items (renumbered_expr r e)) (flat_map expr_items es) (flat_map expr_items (map (renumbered_expr r) es)) (expr_goes e) (exprs_go es)
 
-    init_goes : (o : Option Expr) → Goes (init_items o) (init_items (option_map (renumbered_expr r) o))
+    pub init_goes : (o : Option Expr) → Goes (init_items o) (init_items (option_map (renumbered_expr r) o))
     init_goes None = tt
     init_goes (Some e) = expr_goes e
 
@@ -142,7 +142,7 @@ module _ (r : Renaming) where
     pub value_first : (ty : ValType) (other : ValType) (xs ys : List Item) → Goes xs ys → Goes (value_items ty ++ xs) (value_items other ++ ys)
     value_first ty other xs ys h = goes_both (value_items ty) (value_items other) xs ys (types_go (option_to_list (value_name ty)) (value_items other)) h
 
-    ref_first : (ty : RefType) (other : RefType) (xs ys : List Item) → Goes xs ys → Goes (ref_items ty ++ xs) (ref_items other ++ ys)
+    pub ref_first : (ty : RefType) (other : RefType) (xs ys : List Item) → Goes xs ys → Goes (ref_items ty ++ xs) (ref_items other ++ ys)
     ref_first ty other xs ys h = goes_both (ref_items ty) (ref_items other) xs ys (types_go (option_to_list (ref_name ty)) (ref_items other)) h
 
     pub table_goes : (brings : ℕ → ℕ) (t : Table) → Goes (table_items t) (table_items (renumbered_table r brings t))

@@ -1,5 +1,7 @@
+mod Again
 mod Calls
 mod Dense
+mod Drops
 mod Exports
 mod Goes
 mod Listed
@@ -14,4 +16,5 @@ mod Ruled
 mod Run
 mod Stood
 mod There
+mod Twice
 mod Typed

@@ -64,7 +64,7 @@ pub among_right : {A : Type 0} (xs ys : List A) (y : A) → Among y ys → Among
 among_right [] ys y h = h
 among_right (x ∷ xs) ys y h = inr (among_right xs ys y h)
 
-among_split : {A : Type 0} (xs ys : List A) (y : A) → Among y (xs ++ ys) → Among y xs ⊎ Among y ys
+pub among_split : {A : Type 0} (xs ys : List A) (y : A) → Among y (xs ++ ys) → Among y xs ⊎ Among y ys
 among_split [] ys y h = inr h
 among_split (x ∷ xs) ys y (inl e) = inl (inl e)
 among_split (x ∷ xs) ys y (inr h) = elim (among_split xs ys y h) [
@@ -72,24 +72,24 @@ among_split (x ∷ xs) ys y (inr h) = elim (among_split xs ys y h) [
   | inr j ↦ inr j
 ]
 
-from_flat : {A B : Type 0} (g : A → List B) (xs : List A) (y : B) → Among y (flat_map g xs) → (x : A) × Among x xs × Among y (g x)
+pub from_flat : {A B : Type 0} (g : A → List B) (xs : List A) (y : B) → Among y (flat_map g xs) → (x : A) × Among x xs × Among y (g x)
 from_flat g [] y h = absurd h
 from_flat g (x ∷ xs) y h = elim (among_split (g x) (flat_map g xs) y h) [
   | inl i ↦ (x, inl refl, i)
   | inr j ↦ (let r = from_flat g xs y j in (r.0, inr r.1, r.2))
 ]
 
-to_flat : {A B : Type 0} (g : A → List B) (xs : List A) (x : A) (y : B) → Among x xs → Among y (g x) → Among y (flat_map g xs)
+pub to_flat : {A B : Type 0} (g : A → List B) (xs : List A) (x : A) (y : B) → Among x xs → Among y (g x) → Among y (flat_map g xs)
 to_flat g [] x y h i = absurd h
 to_flat {A} g (z ∷ xs) x y (inl e) i = among_left (g z) (flat_map g xs) y (subst (λ (w : A). Among y (g w)) (sym e) i)
 to_flat g (z ∷ xs) x y (inr h) i = among_right (g z) (flat_map g xs) y (to_flat g xs x y h i)
 
-to_map : {A B : Type 0} (f : A → B) (xs : List A) (x : A) → Among x xs → Among (f x) (map f xs)
+pub to_map : {A B : Type 0} (f : A → B) (xs : List A) (x : A) → Among x xs → Among (f x) (map f xs)
 to_map f [] x h = absurd h
 to_map f (z ∷ xs) x (inl e) = inl (ap f e)
 to_map f (z ∷ xs) x (inr h) = inr (to_map f xs x h)
 
-from_map : {A B : Type 0} (f : A → B) (xs : List A) (y : B) → Among y (map f xs) → (x : A) × Among x xs × (f x ≡ y)
+pub from_map : {A B : Type 0} (f : A → B) (xs : List A) (y : B) → Among y (map f xs) → (x : A) × Among x xs × (f x ≡ y)
 from_map f [] y h = absurd h
 from_map f (x ∷ xs) y (inl e) = (x, inl refl, e)
 from_map f (x ∷ xs) y (inr h) = let r = from_map f xs y h in (r.0, inr r.1, r.2)

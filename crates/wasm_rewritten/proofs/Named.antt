@@ -33,7 +33,7 @@ all_of P [] h = tt
 all_of P (x ∷ xs) h = (h x (zero, omega arith, refl), all_of P xs (λ y c. h y (contains_later x xs y c)))
 
 module _ (v : Numbered) (keep : Bool) (pushed : List Item) (p : Plan) (kept : HasKept v keep pushed p) where
-  item_in : (space : FileSpace) (n : ℕ) → Kept v keep pushed (item space n) → ItemIn p space n
+  pub item_in : (space : FileSpace) (n : ℕ) → Kept v keep pushed (item space n) → ItemIn p space n
   item_in spaces.«Type» n h = kept.has Types n tt h
   item_in spaces.Function n h = kept.has Functions n tt h
   item_in spaces.Table n h = kept.has Tables n tt h

@@ -50,7 +50,7 @@ same_origin (Some g) f e = (g, refl, ap (λ (h : Function). h.origin) (some_is e
     some_is : {x y : Function} → (let some : Function → Option Function = λ x. Some x in some x ≡ some y) → x ≡ y
     some_is e = cc
 
-found_at : {A : Type 0} (xs : List (Option A)) (n : ℕ) → IsSome (slice_index_or xs n None) → (x : A) × (slice_index_or xs n None ≡ Some x)
+pub found_at : {A : Type 0} (xs : List (Option A)) (n : ℕ) → IsSome (slice_index_or xs n None) → (x : A) × (slice_index_or xs n None ≡ Some x)
 found_at {A} xs n h = go (slice_index_or xs n None) h refl
   where
     go : (o : Option A) → IsSome o → slice_index_or xs n None ≡ o → (x : A) × (slice_index_or xs n None ≡ Some x)

@@ -11,6 +11,7 @@ use Rattle.wasm_references.specs.References.{item}
 use Rattle.wasm_references.specs.Kept.{IsReached}
 use Rattle.wasm_canonical.specs.Canonical.{canonical_bytes}
 use Rattle.wasm_merged_modules.specs.Merged.{merged_module}
+use Rattle.wasm_part.specs.Closed.{ItemIn}
 use Rattle.wasm_part.specs.Part.{Plan}
 use Rattle.wasm_part.specs.Seen.{seen_as}
 use Rattle.wasm_rewritten.specs.Customs.{customs_written}
@@ -36,6 +37,13 @@ pub record Rewritten (place : Option ℕ → ℕ) (names producers keep : Bool) 
 abbrev pub WrittenIsReached : Type 0
 WrittenIsReached = (place : Option ℕ → ℕ) (names producers keep : Bool) (features : WasmFeatures) (input bytes : List ℕ) (places : Option (List (ℕ × ℕ))) (w : Rewritten place names producers keep features input bytes places)
     (space : Space) (n : ℕ) → (space ≡ spaces.«Type» → ⊥) → (space ≡ spaces.Memory → ⊥) → n < count_of w.n space → IsReached (seen_as features w.n) keep [] (item space n)
+
+-- of bytes that were rewritten and are rewritten again with the same choices: what is read of them is what was written, and none of its functions, tables,
+-- memories, globals, tags, data and element segments is dropped
+abbrev pub RewritingAgainDropsNothing : Type 0
+RewritingAgainDropsNothing = (place : Option ℕ → ℕ) (names producers keep : Bool) (features : WasmFeatures) (input once twice : List ℕ) (places others : Option (List (ℕ × ℕ)))
+    (first : Rewritten place names producers keep features input once places) (second : Rewritten place names producers keep features once twice others)
+    → (second.file ≡ first.n) × ((space : Space) (n : ℕ) → (space ≡ spaces.«Type» → ⊥) → n < count_of first.n space → ItemIn second.p space n)
 
 -- what was rewritten twice is rewritten as it is. Once isn't enough: locals of types that are named stand by the old numbers of these, which the order of types
 -- may turn around

@@ -3,7 +3,7 @@
 ghost use Rattle.wasm_rewritten.specs.Dense.{PartsAreDense};
 ghost use Rattle.wasm_rewritten.specs.Exports.{ExportsStay};
 ghost use Rattle.wasm_rewritten.specs.Orderly.{ReadFilesAreOrderly};
-ghost use Rattle.wasm_rewritten.specs.Rewritten.{WrittenIsReached};
+ghost use Rattle.wasm_rewritten.specs.Rewritten.{RewritingAgainDropsNothing, WrittenIsReached};
 ghost use Rattle.wasm_rewritten.specs.Ruled.{FilesNameTheirLocals, ReadFilesArePicked, WrittenPartsAreRuled};
 ghost use Rattle.wasm_rewritten.specs.Runs.{CallsAreKept, CorrespondingRuns, EntriesAreKept, KeptIsDecided, PicksKeepThrough, ReadFilesAreAsked, RewrittenRunsCorrespond, WrittenRunsTheSame, WrittenStandsNormal};
 
@@ -11,6 +11,7 @@ use walrus_forms::laws::same_kind_is_equality;
 use wasm_import_links::laws::{read_modules_are_full, read_modules_link};
 use wasm_merged_modules::laws::{merged_files_are_ruled, new_kinds_stand_behind, types_are_merged};
 use wasm_normal_form::laws::{normal_forms_are_normal, trees_are_one};
+use wasm_modules::laws::reads_once;
 use wasm_normal_modules::laws::{
     normal_forms_of_read_modules_are_ruled, numbered_operators_are_normal,
 };
@@ -135,4 +136,16 @@ pub fn written_is_reached()
     ensures { WrittenIsReached }
 {
     names_are_renamed();
+}
+
+/// What was rewritten and is rewritten again with the same choices keeps each of its functions, tables, memories, globals, tags, data and element segments.
+pub fn rewriting_again_drops_nothing()
+    ensures { RewritingAgainDropsNothing }
+{
+    written_is_reached();
+    numbered_operators_are_normal();
+    trees_are_one();
+    normal_forms_are_normal();
+    names_are_renamed();
+    reads_once();
 }
