@@ -91,6 +91,7 @@ pub fn job_of<'a, S: AsStr>(alloc: Global, words: &'a [S]) -> Result<Job<'a>, Er
     options.producers = !matches.get_flag("no-producers");
     options.only_stable_features = matches.get_flag("stable");
     options.legacy_exceptions = !matches.get_flag("no-legacy");
+    options.keep_segments = matches.get_flag("keep-segments");
     Ok(Job {
         input: required(&matches, "INPUT"),
         output: required(&matches, "OUTPUT"),
@@ -124,6 +125,7 @@ fn command<'a>(alloc: Global) -> Result<Command<'a>, AllocError> {
         .arg(flag(alloc, "no-producers", "Write no `producers` section"))?
         .arg(flag(alloc, "stable", "Accept stable features alone"))?
         .arg(flag(alloc, "no-legacy", "Refuse legacy exception operators"))?
+        .arg(flag(alloc, "keep-segments", "Keep all active element segments, with their tables"))?
         .arg(positional(alloc, "INPUT", "The module to read; `-` is standard input"))?
         .arg(positional(
             alloc,

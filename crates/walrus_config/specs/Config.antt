@@ -15,6 +15,7 @@ default_config = record {
   only_stable_features = false;
   legacy_exceptions = true;
   preserve_code_transform = false;
+  keep_segments = false;
 }
 
 -- the default features, the legacy exceptions unless they are switched off, and wide arithmetic unless stable

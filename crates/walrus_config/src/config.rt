@@ -24,6 +24,8 @@ pub struct ModuleConfig {
     pub legacy_exceptions: bool,
     /// Whether it is kept where instructions stood and where they are written.
     pub preserve_code_transform: bool,
+    /// Whether all active element segments are kept.
+    pub keep_segments: bool,
 }
 
 impl Default for ModuleConfig {
@@ -48,6 +50,7 @@ impl ModuleConfig {
             only_stable_features: false,
             legacy_exceptions: true,
             preserve_code_transform: false,
+            keep_segments: false,
         }
     }
 
@@ -126,6 +129,15 @@ impl ModuleConfig {
         ensures set { result.now ≡ record self.old { preserve_code_transform = preserve } }
     {
         self.preserve_code_transform = preserve;
+        self
+    }
+
+    /// Whether all active element segments are kept, each with its table: without it those alone whose table is imported or kept.
+    pub fn keep_segments(&mut self, keep: bool) -> &mut ModuleConfig
+        ensures same { result.ghost_name ≡ self.entry.ghost_name }
+        ensures set { result.now ≡ record self.old { keep_segments = keep } }
+    {
+        self.keep_segments = keep;
         self
     }
 

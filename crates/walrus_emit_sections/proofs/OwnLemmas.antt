@@ -9,7 +9,7 @@ use Rattle.walrus_operators.specs.Appended.{Keeps}
 use Rattle.wasm_operators.proofs.Keeps.{keeps_all, keeps_on}
 use Rattle.walrus_arena.specs.Arena.{Arena, entries_from}
 use Rattle.walrus_collections.specs.LookUps.{items}
-use Rattle.walrus_meaning.specs.Meaning.{slots_of}
+use Rattle.walrus_item_meaning.specs.Meaning.{slots_of}
 use Rattle.wasm_formats.specs.declared.fault.Limited.{Limited}
 use Rattle.walrus_errors.specs.declared.error.ModuleError.{ModuleError}
 use Rattle.walrus_errors.specs.declared.error.ModuleError.TheVariants.{Memory, OutputLimit}

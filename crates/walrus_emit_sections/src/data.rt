@@ -3,8 +3,8 @@
 ghost use Rattle.std.specs.Prelude.{◌++◌};
 ghost use Rattle.walrus_index_maps.specs.Views.{indices};
 ghost use Rattle.walrus_pairing.specs.Looks.{number_of};
-ghost use Rattle.walrus_meaning.specs.Meaning.{own_segment, slots_of};
-ghost use Rattle.walrus_meaning.specs.Words.{own_expr};
+ghost use Rattle.walrus_item_meaning.specs.Meaning.{own_segment, slots_of};
+ghost use Rattle.walrus_module_items.specs.Words.{own_expr};
 ghost use Rattle.walrus_emit_parts.specs.Due.{Writes, number, text};
 ghost use Rattle.walrus_emit_sections.specs.Items.{active, contents, segment, segments};
 
@@ -132,7 +132,7 @@ impl<'a> OwnEntry<Data> for Segments<'a> {
     ghost use Rattle.wasm_grammar.specs.Modules as grammar;
     ghost use Rattle.walrus_index_maps.specs.Views.{indices};
     ghost use Rattle.walrus_pairing.specs.Looks.{number_of};
-    ghost use Rattle.walrus_meaning.specs.Meaning.{own_segment};
+    ghost use Rattle.walrus_item_meaning.specs.Meaning.{own_segment};
     ghost use Rattle.walrus_emit_sections.specs.Items.{segment};
 
     ghost Seen = { grammar.Segment };

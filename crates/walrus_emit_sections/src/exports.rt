@@ -2,7 +2,7 @@
 
 ghost use Rattle.walrus_index_maps.specs.Views.{indices};
 ghost use Rattle.walrus_pairing.specs.Looks.{number_of};
-ghost use Rattle.walrus_meaning.specs.Meaning.{own_export, own_given, slots_of};
+ghost use Rattle.walrus_item_meaning.specs.Meaning.{own_export, own_given, slots_of};
 ghost use Rattle.walrus_emit_parts.specs.Due.{Writes};
 ghost use Rattle.walrus_emit_sections.specs.Items.{export, exports, kind_index};
 
@@ -63,7 +63,7 @@ impl<'a> OwnEntry<Export> for Exports<'a> {
     ghost use Rattle.wasm_grammar.specs.Modules as grammar;
     ghost use Rattle.walrus_index_maps.specs.Views.{indices};
     ghost use Rattle.walrus_pairing.specs.Looks.{number_of};
-    ghost use Rattle.walrus_meaning.specs.Meaning.{own_export};
+    ghost use Rattle.walrus_item_meaning.specs.Meaning.{own_export};
     ghost use Rattle.walrus_emit_sections.specs.Items.{export};
 
     ghost Seen = { grammar.Export };

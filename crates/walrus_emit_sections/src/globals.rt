@@ -3,8 +3,8 @@
 ghost use Rattle.std.specs.Prelude.{[], ◌∷◌};
 ghost use Rattle.walrus_index_maps.specs.Views.{indices};
 ghost use Rattle.walrus_pairing.specs.Looks.{number_of};
-ghost use Rattle.walrus_meaning.specs.Meaning.{own_global, slots_of};
-ghost use Rattle.walrus_meaning.specs.Words.{own_expr};
+ghost use Rattle.walrus_item_meaning.specs.Meaning.{own_global, slots_of};
+ghost use Rattle.walrus_module_items.specs.Words.{own_expr};
 ghost use Rattle.walrus_emit_parts.specs.Due.{Writes, written};
 ghost use Rattle.walrus_emit_values.specs.Values.{bit};
 ghost use Rattle.wasm_grammar.specs.Modules as grammar;
@@ -71,7 +71,7 @@ impl<'a> OwnEntry<Global> for Globals<'a> {
     ghost use Rattle.wasm_grammar.specs.Modules as grammar;
     ghost use Rattle.walrus_index_maps.specs.Views.{indices};
     ghost use Rattle.walrus_pairing.specs.Looks.{number_of};
-    ghost use Rattle.walrus_meaning.specs.Meaning.{own_global};
+    ghost use Rattle.walrus_item_meaning.specs.Meaning.{own_global};
     ghost use Rattle.walrus_emit_sections.specs.Items.{global, is_own};
 
     ghost Seen = { grammar.Global };

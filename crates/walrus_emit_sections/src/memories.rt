@@ -1,7 +1,7 @@
 //! The memory section.
 
 ghost use Rattle.std.specs.Prelude.{◌≡◌};
-ghost use Rattle.walrus_meaning.specs.Meaning.{own_memory, slots_of};
+ghost use Rattle.walrus_item_meaning.specs.Meaning.{own_memory, slots_of};
 ghost use Rattle.walrus_emit_parts.specs.Due.{Writes};
 ghost use Rattle.walrus_emit_values.specs.Values.{optional};
 ghost use Rattle.walrus_emit_sections.specs.Items.{memories, memory, memory_flags};
@@ -59,7 +59,7 @@ struct Memories;
 impl OwnEntry<Memory> for Memories {
     ghost use Rattle.std.specs.Option.{is_none};
     ghost use Rattle.wasm_grammar.specs.Modules as grammar;
-    ghost use Rattle.walrus_meaning.specs.Meaning.{own_memory};
+    ghost use Rattle.walrus_item_meaning.specs.Meaning.{own_memory};
     ghost use Rattle.walrus_emit_sections.specs.Items.{memory};
 
     ghost Seen = { grammar.Memory };

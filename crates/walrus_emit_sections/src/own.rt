@@ -4,7 +4,7 @@ ghost use Rattle.std.specs.Prelude.{◌≡◌, ◌≤◌, ◌++◌, Bool, length
 ghost use Rattle.wasm_operators.specs.Bytes.{unsigned_bytes};
 ghost use Rattle.walrus_errors.specs.declared.error.ModuleError.TheVariants.{Memory};
 ghost use Rattle.walrus_collections.specs.LookUps.{items};
-ghost use Rattle.walrus_meaning.specs.Meaning.{slots_of};
+ghost use Rattle.walrus_item_meaning.specs.Meaning.{slots_of};
 ghost use Rattle.walrus_emit_parts.specs.Due.{Due, Writes, limited};
 ghost use Rattle.walrus_emit_sections.specs.Own.{HasAtMost, WritesOwn, live, own_section};
 

@@ -3,8 +3,8 @@
 ghost use Rattle.std.specs.Prelude.{◌≡◌, ◌++◌, Some};
 ghost use Rattle.walrus_index_maps.specs.Views.{indices};
 ghost use Rattle.walrus_pairing.specs.Looks.{number_of};
-ghost use Rattle.walrus_meaning.specs.Meaning.{own_table, slots_of};
-ghost use Rattle.walrus_meaning.specs.Words.{own_expr};
+ghost use Rattle.walrus_item_meaning.specs.Meaning.{own_table, slots_of};
+ghost use Rattle.walrus_module_items.specs.Words.{own_expr};
 ghost use Rattle.walrus_emit_parts.specs.Due.{Writes};
 ghost use Rattle.walrus_emit_values.specs.Values.{expr};
 ghost use Rattle.walrus_emit_sections.specs.Items.{table, table_flags, table_of, table_type, tables};
@@ -17,6 +17,7 @@ use walrus_emit_values::{write_expr, write_limits, write_reference};
 use walrus_errors::{Limited, Result};
 use walrus_index_maps::IdsToIndices;
 use walrus_instr::ConstExpr;
+use walrus_item_meaning::table_init;
 
 // What a reader takes at most.
 const MAX: u64 = 100;
@@ -63,7 +64,7 @@ fn write_init(out: &mut Vec<u8>, item: &Table, init: &ConstExpr, maps: &IdsToInd
 fn write_table(out: &mut Vec<u8>, item: &Table, maps: &IdsToIndices) -> Result<()>
     ensures { Writes (table (number_of (indices maps.now) 0) (own_table item.now)) out.old.items out.new.items result }
 {
-    match &item.init {
+    match table_init(item) {
         Some(init) => write_init(out, item, init, maps),
         None => write_table_type(out, item, maps),
     }
@@ -77,7 +78,7 @@ impl<'a> OwnEntry<Table> for Tables<'a> {
     ghost use Rattle.wasm_grammar.specs.Modules as grammar;
     ghost use Rattle.walrus_index_maps.specs.Views.{indices};
     ghost use Rattle.walrus_pairing.specs.Looks.{number_of};
-    ghost use Rattle.walrus_meaning.specs.Meaning.{own_table};
+    ghost use Rattle.walrus_item_meaning.specs.Meaning.{own_table};
     ghost use Rattle.walrus_emit_sections.specs.Items.{table};
 
     ghost Seen = { grammar.Table };

@@ -2,7 +2,7 @@
 
 ghost use Rattle.walrus_index_maps.specs.Views.{indices};
 ghost use Rattle.walrus_pairing.specs.Looks.{number_of};
-ghost use Rattle.walrus_meaning.specs.Meaning.{own_tag, slots_of};
+ghost use Rattle.walrus_item_meaning.specs.Meaning.{own_tag, slots_of};
 ghost use Rattle.walrus_emit_parts.specs.Due.{Writes};
 ghost use Rattle.walrus_emit_sections.specs.Items.{tag, tags};
 
@@ -40,7 +40,7 @@ impl<'a> OwnEntry<Tag> for Tags<'a> {
     ghost use Rattle.wasm_grammar.specs.Modules as grammar;
     ghost use Rattle.walrus_index_maps.specs.Views.{indices};
     ghost use Rattle.walrus_pairing.specs.Looks.{number_of};
-    ghost use Rattle.walrus_meaning.specs.Meaning.{own_tag};
+    ghost use Rattle.walrus_item_meaning.specs.Meaning.{own_tag};
     ghost use Rattle.walrus_emit_sections.specs.Items.{tag};
 
     ghost Seen = { grammar.Tag };

@@ -78,6 +78,17 @@ pub(crate) fn add_imported(module: &mut Module) -> Result<(), AllocError> {
     Ok(())
 }
 
+/// Adds an imported table that is exported, and puts the function of this number into its field for an initialiser.
+pub(crate) fn add_imported_table(module: &mut Module, number: usize) -> Result<(), AllocError> {
+    let (id, _) = module.add_import_table("m", "t", false, 1, None, RefType::FUNCREF)?;
+    let function = FunctionId::from_index(number & 0xff);
+    if module.tables.contains(id) {
+        module.tables.get_mut(id).init = Some(ConstExpr::RefFunc(function));
+    }
+    module.exports.add("t", id)?;
+    Ok(())
+}
+
 /// Adds a global that several threads may use.
 pub(crate) fn add_shared(module: &mut Module) -> Result<(), AllocError> {
     module

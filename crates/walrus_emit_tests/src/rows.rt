@@ -1,8 +1,8 @@
 //! Modules that calls made or broke, step by step.
 use crate::edits::{Edit, Item};
 use crate::files::{
-    CALLS_BEHIND, DECLARED, DECLARED_WITH_OWN, EMPTY, MADE, NOP, OWN, PLAIN, REFERS, RETURNS,
-    THREE, TOLD_NEVER, TOLD_ONCE, TOLD_TWICE, USED,
+    BRINGS_TABLE, CALLS_BEHIND, DECLARED, DECLARED_WITH_OWN, EMPTY, MADE, NOP, OWN, PLAIN, REFERS,
+    RETURNS, TABLE_ALONE, THREE, TOLD_NEVER, TOLD_ONCE, TOLD_TWICE, USED,
 };
 use crate::own::Own;
 use crate::steps::{Step, steps_taken};
@@ -53,7 +53,7 @@ const MANY_TABLES: ModuleError = ModuleError::OutputLimit {
 };
 
 // A file, whether places are kept of it, and the steps.
-const ROWS: [(&[u8], bool, &[Step]); 24] = [
+const ROWS: [(&[u8], bool, &[Step]); 26] = [
     // What calls made is written, once more the same, and then what is used of it.
     (
         EMPTY,
@@ -247,6 +247,31 @@ const ROWS: [(&[u8], bool, &[Step]); 24] = [
             Step::Delete(0, Item::Type),
             Step::Refused(DEAD_TYPE),
             Step::Gc(Some(DEAD_TYPE)),
+        ],
+    ),
+    // An imported table has no initialiser: what its field names isn't kept, nor is the field written.
+    (
+        NOP,
+        false,
+        &[
+            Step::ImportedTable(0),
+            Step::Writes(BRINGS_TABLE),
+            Step::Delete(0, Item::Export),
+            Step::Gc(None),
+            Step::Writes(TABLE_ALONE),
+        ],
+    ),
+    // What its field names may be deleted.
+    (
+        NOP,
+        false,
+        &[
+            Step::ImportedTable(0),
+            Step::Delete(0, Item::Export),
+            Step::Delete(0, Item::Function),
+            Step::Written,
+            Step::Gc(None),
+            Step::Writes(TABLE_ALONE),
         ],
     ),
     // An import of what was never there, and a start function.

@@ -1,6 +1,7 @@
 //! Modules that are read, and then changed and written step by step.
 use crate::added::{
-    add_each, add_exact, add_imported, add_named, add_parameters, add_shared, add_tables,
+    add_each, add_exact, add_imported, add_imported_table, add_named, add_parameters, add_shared,
+    add_tables,
 };
 use crate::edits::{Edit, Item, delete, edit_body, uninitialize};
 use crate::own::{Own, add_own};
@@ -23,6 +24,8 @@ pub(crate) enum Step {
     /// An import that says that it brings the function of this number.
     ImportOf(usize),
     Imported,
+    /// An imported table that is exported, and in whose field for an initialiser stands the function of this number.
+    ImportedTable(usize),
     Shared,
     Exact,
     Tables(usize),
@@ -52,6 +55,7 @@ pub(crate) enum Step {
 fn add(alloc: Global, module: &mut Module, step: Step) -> Result<()> {
     match step {
         Step::Imported => add_imported(module)?,
+        Step::ImportedTable(number) => add_imported_table(module, number)?,
         Step::Shared => add_shared(module)?,
         Step::Exact => add_exact(module)?,
         Step::Tables(count) => add_tables(module, count)?,

@@ -9,7 +9,7 @@ use Rattle.walrus_forms.specs.declared.value.HeapType.{HeapType}
 use Rattle.walrus_forms.specs.declared.value.HeapType.TheVariants.{Abstract, Concrete, Exact}
 use Rattle.walrus_pairing.specs.Types.{written_abstract}
 use Rattle.wasm_grammar.specs.TypeWords.{abstract_from, heap_from}
-use Rattle.walrus_meaning.specs.Words.{own_heap}
+use Rattle.walrus_module_items.specs.Words.{own_heap}
 
 abstract_same : (ty : AbstractHeapType) → abstract_from ty ≡ written_abstract ty
 abstract_same kinds.Func = refl

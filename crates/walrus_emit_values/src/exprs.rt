@@ -6,7 +6,7 @@ ghost use Rattle.wasm_operators.specs.Items as items;
 ghost use Rattle.walrus_index_maps.specs.Views.{indices};
 ghost use Rattle.walrus_pairing.specs.Looks.{number_of};
 ghost use Rattle.walrus_emit_parts.specs.Due.{Writes, written};
-ghost use Rattle.walrus_meaning.specs.Words.{const_seen, own_expr};
+ghost use Rattle.walrus_module_items.specs.Words.{const_seen, own_expr};
 ghost use Rattle.walrus_emit_values.specs.Values.{expr, items_due, operator};
 
 use crate::types::{write_index, write_own_heap};
@@ -109,7 +109,7 @@ impl<'a> Entry<ConstOp> for Operators<'a> {
     ghost use Rattle.wasm_operators.specs.Operators.{Seen};
     ghost use Rattle.walrus_index_maps.specs.Views.{indices};
     ghost use Rattle.walrus_pairing.specs.Looks.{number_of};
-    ghost use Rattle.walrus_meaning.specs.Words.{const_seen};
+    ghost use Rattle.walrus_module_items.specs.Words.{const_seen};
     ghost use Rattle.walrus_emit_values.specs.Values.{operator};
 
     ghost Seen = { Seen };

@@ -5,7 +5,7 @@ ghost use Rattle.wasm_operators.specs.Bytes.{abstract_code};
 ghost use Rattle.wasm_grammar.specs.TypeWords.{abstract_from, heap_from, ref_from, value_from};
 ghost use Rattle.walrus_index_maps.specs.Views.{indices};
 ghost use Rattle.walrus_emit_parts.specs.Due.{Writes, written};
-ghost use Rattle.walrus_meaning.specs.Words.{own_heap};
+ghost use Rattle.walrus_module_items.specs.Words.{own_heap};
 ghost use Rattle.walrus_emit_values.specs.Values.{heap, index, reference, reference_parts, signed_index, value};
 
 use walrus_emit_parts::{write_byte, write_number, write_signed};

@@ -19,6 +19,7 @@ use Rattle.walrus_instr.specs.declared.const_expr.ConstOp.{ConstOp}
 use Rattle.walrus_instr.specs.declared.const_expr.ConstOp.TheVariants.{RefNull as RefNullOp}
 use Rattle.walrus_instr.specs.declared.const_expr.ConstExpr.{ConstExpr}
 use Rattle.walrus_instr.specs.declared.const_expr.ConstExpr.TheVariants.{RefNull as NullExpr, Extended}
+use Rattle.walrus_item_meaning.specs.Meaning.{table_init}
 use Rattle.walrus_module_items.specs.declared.table.Table.{Table}
 use Rattle.walrus_module_items.specs.declared.global.Global.{Global}
 use Rattle.walrus_module_items.specs.declared.global.GlobalKind.{GlobalKind}
@@ -98,7 +99,7 @@ init_exact None = false
 
 -- the element type of a table, and its initialiser
 abbrev pub table_exact : Table → Bool
-table_exact t = ref_exact t.element_ty || init_exact t.init
+table_exact t = ref_exact t.element_ty || init_exact (table_init t)
 
 abbrev pub value_exact : GlobalKind → Bool
 value_exact (globals.Import _) = false

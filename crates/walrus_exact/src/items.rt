@@ -1,10 +1,12 @@
 //! Exact heap types in items.
 ghost use Rattle.std.specs.Prelude.{◌≡◌};
 ghost use Rattle.std.specs.List.{list_any};
+ghost use Rattle.walrus_item_meaning.specs.Meaning.{table_init};
 ghost use Rattle.walrus_exact.specs.Exact.{data_exact, element_exact, expr_exact, global_exact, held_exact, init_exact, op_exact, place_exact, table_exact, value_exact};
 
 use crate::types::{ref_exact, val_exact};
 use walrus_instr::{ConstExpr, ConstOp};
+use walrus_item_meaning::table_init;
 use walrus_module_items::{
     DataKind, Element, ElementItems, ElementKind, Global, GlobalKind, Table,
 };
@@ -40,10 +42,10 @@ fn exprs_exact(exprs: &[ConstExpr]) -> bool
     exprs.iter().any(|expr| expr_exact(expr))
 }
 
-fn init_exact(init: &Option<ConstExpr>) -> bool
-    ensures { result ≡ init_exact init.now }
+fn init_exact(table: &Table) -> bool
+    ensures { result ≡ init_exact (table_init table.now) }
 {
-    match init {
+    match table_init(table) {
         Some(init) => expr_exact(init),
         None => false,
     }
@@ -53,7 +55,7 @@ fn init_exact(init: &Option<ConstExpr>) -> bool
 pub fn table_exact(table: &Table) -> bool
     ensures { result ≡ table_exact table.now }
 {
-    ref_exact(&table.element_ty) || init_exact(&table.init)
+    ref_exact(&table.element_ty) || init_exact(table)
 }
 
 fn value_exact(kind: &GlobalKind) -> bool

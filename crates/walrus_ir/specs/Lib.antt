@@ -36,10 +36,10 @@ pub use Rattle.walrus_types.specs.TypeLaws
 pub use Rattle.walrus_type_laws.specs.Alike
 pub use Rattle.walrus_type_laws.specs.Edited as EditedTables
 pub use Rattle.walrus_type_laws.specs.Rounds
-pub use Rattle.walrus_swap_law.specs.Swap
-pub use Rattle.walrus_edit_laws.specs.Edits as TableEdits
-pub use Rattle.walrus_edit_laws.specs.Locals
-pub use Rattle.walrus_edit_laws.specs.Ordinary
+pub use Rattle.walrus_type_laws.specs.Swap
+pub use Rattle.walrus_type_laws.specs.Edits as TableEdits
+pub use Rattle.walrus_type_laws.specs.Locals
+pub use Rattle.walrus_type_laws.specs.Ordinary
 -- Instructions, constants and block types.
 pub use Rattle.walrus_instr.specs.BlockTypes
 pub use Rattle.walrus_instr.specs.Constants

@@ -41,14 +41,14 @@ pub mod laws {
     /// Laws of tables of types: what is read and emitted, once and again, after edits, and in another order;
     /// and what edits keep of tables and locals.
     pub mod tables {
-        pub use walrus_edit_laws::{
+        pub use walrus_type_laws::edited::{
             emitted_are_ordinary, local_ids_are_kept, own_ids_are_kept, records_are_ordinary,
             settled_is_kept,
         };
-        pub use walrus_swap_law::{records_have_no_entries, swap_changes_nothing};
-        pub use walrus_type_laws::{
+        pub use walrus_type_laws::parsed::{
             alike_tables_are_written_alike, edited_are_read_back, edited_are_sound,
             edited_are_written_again, second_round_is_first, sections_are_carried,
         };
+        pub use walrus_type_laws::swapped::{records_have_no_entries, swap_changes_nothing};
     }
 }

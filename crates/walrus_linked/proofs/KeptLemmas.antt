@@ -1,10 +1,10 @@
 -- Adding an item with the import that brings it, as the calls say what they do.
-use Rattle.std.proofs.Common.{◌≡◌, ◌∙◌, zero, suc, List, [], ◌∷◌, ◌++◌, Option, Some, Contains, sym, ap, subst, arith}
+use Rattle.std.proofs.Common.{◌≡◌, ◌∙◌, ℕ, zero, suc, List, [], ◌∷◌, ◌++◌, Option, Some, Contains, sym, ap, subst, arith}
 use Rattle.std.proofs.lemmas.List.{append-nil}
 use Rattle.walrus_forms.specs.declared.value.RefType.{RefType}
-use Rattle.walrus_marks.specs.walrus_instr.declared.const_expr.ConstExpr.{ConstExpr}
 use Rattle.walrus_marks.specs.walrus_walks.Events.{Event, val_names, ref_names}
 use Rattle.wasm_formats.specs.declared.fault.Space.TheVariants as spaces
+use Rattle.walrus_item_meaning.specs.Meaning.{init_beside, table_init}
 use Rattle.walrus_module.specs.Parts.{Module}
 use Rattle.walrus_roots.specs.declared.item.Item.{Item}
 use Rattle.walrus_roots.specs.Items.{item}
@@ -43,7 +43,7 @@ imports_keep_linked = record {
       let x0 = adds.0 in
       let back = adds.1.import_is ∙ ap Some is in
       let forth = ap brought brings.1.kind_is ∙ ap (item spaces.Table) ts in
-      let same : table_names x0 ≡ ref_names element ++ [] = ap (λ (e : RefType). ref_names e ++ init_names x0.init) adds.1.element_is ∙ ap (λ (o : Option ConstExpr). ref_names element ++ init_names o) adds.1.init_is in
+      let same : table_names x0 ≡ ref_names element ++ [] = ap (λ (e : RefType). ref_names e ++ init_names (table_init x0)) adds.1.element_is ∙ ap (λ (o : Option ℕ). ref_names element ++ init_names (init_beside o x0.init)) adds.1.import_is in
       subst IsLinked (sym rest) (T.table_linked m n.imports n.tables x0 brings.0 brings.2 adds.2 back forth
       (λ y has. let C : List Event → Type 0 = λ xs. Contains (items_of xs) y in
       (T.in_space m n.imports n.tables x0 brings.0 brings.2 adds.2 back forth y.space).lives_kept y.id (lives y (without_end (ref_names element) y (subst C same has)))) l);

@@ -10,6 +10,7 @@ use Rattle.walrus_marks.specs.walrus_instr.declared.const_expr.ConstExpr.{ConstE
 use Rattle.walrus_marks.specs.walrus_walks.Events.{Event, NamesLocal, NamesType, NamesFunction, NamesTable, NamesMemory, val_names, ref_names, events_of}
 use Rattle.walrus_marks.specs.walrus_walks.ConstEvents.{expr_names}
 use Rattle.walrus_marks.specs.walrus_walks.Walk.{body_walk}
+use Rattle.walrus_item_meaning.specs.Meaning.{table_init}
 use Rattle.walrus_module.specs.walrus_builder.Functions.{seqs_of}
 use Rattle.walrus_module.specs.walrus_local_function.declared.local_function.LocalFunction.{LocalFunction}
 use Rattle.walrus_module.specs.walrus_module_items.declared.function.Function.{Function}
@@ -61,7 +62,7 @@ init_names (Some init) = expr_names init
 init_names None = []
 
 abbrev pub table_names : Table → List Event
-table_names t = ref_names t.element_ty ++ init_names t.init
+table_names t = ref_names t.element_ty ++ init_names (table_init t)
 
 abbrev pub value_names : GlobalKind → List Event
 value_names (globals.Import _) = []

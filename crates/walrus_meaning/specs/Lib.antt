@@ -1,7 +1,6 @@
 pub mod Bodies
 pub mod Laws
 pub mod Meaning
-pub mod Segments
 pub use Rattle.walrus_linked.specs.walrus_module_items.Words
 pub mod Told
 pub mod NamesTold

@@ -1,9 +1,10 @@
 -- Adds, as the calls say what they do.
-use Rattle.std.proofs.Common.{◌≡◌, ◌∙◌, List, [], ◌∷◌, ◌++◌, Option, Contains, refl, sym, ap, subst}
+use Rattle.std.proofs.Common.{◌≡◌, ◌∙◌, ℕ, List, [], ◌∷◌, ◌++◌, Option, Contains, refl, sym, ap, subst}
 use Rattle.walrus_forms.specs.declared.value.RefType.{RefType}
 use Rattle.walrus_instr.specs.declared.const_expr.ConstExpr.{ConstExpr}
 use Rattle.walrus_walks.specs.Events.{Event, NamesType, val_names, ref_names}
 use Rattle.walrus_walks.specs.ConstEvents.{expr_names}
+use Rattle.walrus_linked.specs.walrus_item_meaning.Meaning.{init_beside, table_init}
 use Rattle.walrus_linked.specs.walrus_module_items.declared.export.ExportItem.{ExportItem}
 use Rattle.walrus_linked.specs.walrus_module_items.declared.function.FunctionKind.{FunctionKind}
 use Rattle.walrus_linked.specs.walrus_module_items.declared.function.FunctionKind.TheVariants as functions
@@ -43,7 +44,8 @@ adds_keep_linked = record {
   tables = λ m n t table64 initial maximum element init adds rest lives l.
       let w : Module = record m { tables = n.tables } in
       let same : table_names adds.0 ≡ ref_names element ++ init_names init =
-      ap (λ (e : RefType). ref_names e ++ init_names adds.0.init) adds.1.element_is ∙ ap (λ (o : Option ConstExpr). ref_names element ++ init_names o) adds.1.init_is in
+      ap (λ (e : RefType). ref_names e ++ init_names (table_init adds.0)) adds.1.element_is ∙ ap (λ (o : Option ℕ). ref_names element ++ init_names (init_beside o adds.0.init)) adds.1.import_is
+      ∙ ap (λ (o : Option ConstExpr). ref_names element ++ init_names o) adds.1.init_is in
       let A : List Event → Type 0 = λ es. AreLive w es in
       subst IsLinked (sym rest) (T.table_added m n.tables adds.0 adds.2 adds.1.import_is (subst A (sym same) (in_other n w rest (ref_names element ++ init_names init) lives)) l);
   memories = λ m n x shared memory64 initial maximum page adds rest l. subst IsLinked (sym rest) (M.memory_added m n.memories adds.0 adds.2 adds.1.import_is l);

@@ -13,7 +13,7 @@ use Rattle.walrus_marks.specs.walrus_instr.declared.const_expr.ConstExpr.{ConstE
 use Rattle.walrus_marks.specs.walrus_instr.declared.const_expr.ConstOp.TheVariants as consts
 use Rattle.walrus_marks.specs.walrus_instr.declared.const_expr.ConstOp.{ConstOp}
 use Rattle.walrus_parse_laws.specs.Renamed.{by_types, retyped_element, retyped_expr, retyped_global, retyped_items, retyped_mode, retyped_origin, retyped_segment, retyped_table}
-use Rattle.walrus_parse_laws.specs.walrus_named_bodies.walrus_file_bodies.walrus_items_into.walrus_module_bodies.walrus_body_trees.walrus_meaning.Meaning.{own_data_mode, own_element, own_element_mode, own_elements, own_global, own_segment, own_table, own_value_of}
+use Rattle.walrus_parse_laws.specs.walrus_named_bodies.walrus_file_bodies.walrus_items_into.walrus_module_bodies.walrus_body_trees.walrus_meaning.Meaning.{own_data_mode, own_element, own_element_mode, own_elements, own_global, own_segment, own_table, own_value_of, table_init}
 use Rattle.walrus_parse_laws.specs.walrus_named_bodies.walrus_file_bodies.walrus_items_into.walrus_module_bodies.walrus_body_trees.walrus_meaning.Words.{const_seen, own_expr, own_heap}
 use Rattle.walrus_parse_laws.specs.walrus_named_bodies.walrus_file_bodies.walrus_items_into.walrus_module_env.walrus_collections.walrus_module_items.declared.data.Data.{Data}
 use Rattle.walrus_parse_laws.specs.walrus_named_bodies.walrus_file_bodies.walrus_items_into.walrus_module_env.walrus_collections.walrus_module_items.declared.data.DataKind.TheVariants as datas
@@ -98,9 +98,9 @@ module _ (r : ℕ → ℕ) where
 
   pub table_false : (t : Table) (u : grammar.Table) → own_table t ≡ retyped_table r u → InexactRef u.element × InexactInit u.init → table_exact t ≡ false
   table_false t u e h =
-      or_false (ref_exact t.element_ty) (init_exact t.init)
+      or_false (ref_exact t.element_ty) (init_exact (table_init t))
       (heap_false t.element_ty.heap_type (subst InexactRef (sym (ap (λ (x : grammar.Table). x.element) e)) (ref_renamed r u.element h.0)))
-      (init_false t.init u.init (ap (λ (x : grammar.Table). x.init) e) h.1)
+      (init_false (table_init t) u.init (ap (λ (x : grammar.Table). x.init) e) h.1)
 
   origin_false : (x : GlobalKind) (y : grammar.Origin grammar.Expr) → own_value_of x ≡ retyped_origin r y → InexactOrigin y → value_exact x ≡ false
   origin_false (globals.Import id) y e h = refl

@@ -1,5 +1,5 @@
 -- Lemmas: items with expressions mean what was read, renamed, where each operator has a spelling.
-use Rattle.std.proofs.Common.{◌≡◌, ◌∙◌, ℕ, Bool, List, [], ◌∷◌, map, Option, Some, None, refl, ap}
+use Rattle.std.proofs.Common.{◌≡◌, ◌⊎◌, ◌∙◌, ℕ, Bool, List, [], ◌∷◌, map, Option, Some, None, refl, ap}
 use Rattle.std.specs.Option.{option_map}
 use Rattle.std.specs.List.{AllZip, AllByRecursion}
 use Rattle.std.specs.Global.{Vec}
@@ -9,7 +9,8 @@ use Rattle.walrus_named_bodies.specs.walrus_file_bodies.walrus_items_into.walrus
 use Rattle.walrus_named_bodies.specs.walrus_file_bodies.walrus_items_into.walrus_module_bodies.walrus_body_trees.walrus_meaning.walrus_local_function.walrus_body_locals.wasm_body_grammar.wasm_operators.Names.{Renaming, renamed_operator}
 use Rattle.walrus_named_bodies.specs.wasm_spelled_modules.Spelled.{IsSpelled, InitIsSpelled, OriginIsSpelled, ModeIsSpelled, ItemsAreSpelled}
 use Rattle.walrus_named_bodies.specs.walrus_file_bodies.walrus_items_into.walrus_module_bodies.walrus_body_trees.walrus_meaning.Words.{own_expr}
-use Rattle.walrus_named_bodies.specs.walrus_file_bodies.walrus_items_into.walrus_module_bodies.walrus_body_trees.walrus_meaning.Meaning.{own_table, own_value_of, own_global, own_element_mode, own_elements, own_element, own_data_mode, own_segment}
+use Rattle.walrus_named_bodies.specs.walrus_file_bodies.walrus_items_into.walrus_module_bodies.walrus_body_trees.walrus_meaning.Meaning.{table_init, own_table, own_value_of, own_global, own_element_mode, own_elements, own_element, own_data_mode, own_segment}
+use Rattle.walrus_named_bodies.specs.walrus_file_bodies.walrus_items_into.walrus_module_bodies.walrus_body_trees.walrus_meaning.walrus_linked.walrus_item_meaning.Meaning.{init_beside}
 use Rattle.walrus_named_bodies.specs.walrus_file_bodies.walrus_items_into.walrus_module_bodies.walrus_body_trees.walrus_meaning.walrus_linked.walrus_module_items.declared.table.Table.{Table}
 use Rattle.walrus_named_bodies.specs.walrus_file_bodies.walrus_items_into.walrus_module_bodies.walrus_body_trees.walrus_meaning.walrus_linked.walrus_module_items.declared.global.Global.{Global}
 use Rattle.walrus_named_bodies.specs.walrus_file_bodies.walrus_items_into.walrus_module_bodies.walrus_body_trees.walrus_meaning.walrus_linked.walrus_module_items.declared.global.GlobalKind.{GlobalKind}
@@ -67,8 +68,19 @@ module _ (features : WasmFeatures) (look : Look) (stay : OthersStay look) where
   init_means (Some ops) None spelled h = absurd h
   init_means (Some ops) (Some c) spelled h = ap (λ (e : Expr). Some e) (expr_means ops.items c spelled h)
 
-  table_means : (slot : ℕ) (r : ReadTable) (t : Table) → InitIsSpelled features (option_map expr_of r.init) → IsTableOf look slot r t → own_table t ≡ retyped_table (type_id look) (table_of r)
-  table_means slot r t spelled h = go _ _ _ _ _ _ _ _ _ _ _ _ h.wide h.initial h.maximum (ref_renamed look (ref_of r.ty.element) t.element_ty h.element) (init_means r.init t.init spelled h.init) h.import
+  -- a table that is imported was read without an initialiser
+  init_alone : (import : Option ℕ) (read : Option (Vec Operator)) (init : Option ConstExpr) → (option_map expr_of read ≡ None) ⊎ (import ≡ None) → InitBecomes look read init → init_beside import init ≡ init
+  init_alone None read init bare h = refl
+  init_alone (Some n) None None bare h = refl
+  init_alone (Some n) None (Some c) bare h = absurd h
+  init_alone (Some n) (Some ops) init (inl bare) h = absurd cc
+  init_alone (Some n) (Some ops) init (inr bare) h = absurd cc
+
+  table_means : (slot : ℕ) (r : ReadTable) (t : Table) → InitIsSpelled features (option_map expr_of r.init) → (option_map expr_of r.init ≡ None) ⊎ (r.import ≡ None) → IsTableOf look slot r t
+      → own_table t ≡ retyped_table (type_id look) (table_of r)
+  table_means slot r t spelled bare h =
+      let alone : table_init t ≡ t.init = ap (λ (o : Option ℕ). init_beside o t.init) h.import ∙ init_alone r.import r.init t.init bare h.init in
+      go _ _ _ _ _ _ _ _ _ _ _ _ h.wide h.initial h.maximum (ref_renamed look (ref_of r.ty.element) t.element_ty h.element) (ap (option_map own_expr) alone ∙ init_means r.init t.init spelled h.init) h.import
     where
       go : (a b : Bool) (c d : ℕ) (e f : Option ℕ) (g h : RefType) (i j : Option Expr) (k l : Option ℕ) → a ≡ b → c ≡ d → e ≡ f → g ≡ h → i ≡ j → k ≡ l
           → ◌≡◌ {A = grammar.Table} (record { wide = a; initial = c; maximum = e; element = g; init = i; imported = k }) (record { wide = b; initial = d; maximum = f; element = h; init = j; imported = l })
@@ -149,7 +161,7 @@ module _ (features : WasmFeatures) (look : Look) (stay : OthersStay look) where
 
 pub tables_mean : TablesMean
 tables_mean features s look new spelled stay h =
-    as_changed (IsTableOf look) table_of own_table _ (retyped_table (type_id look)) (λ slot r t p is. table_means features look stay slot r t p.0 is) s.tables.items new spelled.tables h
+    as_changed (IsTableOf look) table_of own_table _ (retyped_table (type_id look)) (λ slot r t p is. table_means features look stay slot r t p.0 p.1 is) s.tables.items new spelled.tables h
 
 pub globals_mean : GlobalsMean
 globals_mean features s look new spelled stay h =

@@ -9,7 +9,8 @@ use Rattle.walrus_named_bodies.specs.walrus_file_bodies.walrus_items_into.walrus
 use Rattle.walrus_named_bodies.specs.walrus_file_bodies.walrus_items_into.walrus_functions_into.Laws.{ReadFunctionsStand, read_bodies}
 use Rattle.walrus_named_bodies.specs.walrus_file_bodies.walrus_items_into.walrus_module_bodies.walrus_body_trees.walrus_meaning.walrus_body_writer.walrus_pairing.walrus_index_maps.Maps.{Ids}
 use Rattle.walrus_parse_laws.specs.Functions.{FunctionsFill}
-use Rattle.walrus_parse_laws.specs.Meaning.{AreFilled, ModuleMeans, OrderedStay, OthersStay, type_id, types_in}
+use Rattle.walrus_parse_laws.specs.Meaning.{AreFilled, ModuleMeans, OrderedStay, OthersStay, type_id}
+use Rattle.walrus_named_bodies.specs.walrus_file_bodies.walrus_items_into.Numbers.{types_in}
 use Rattle.walrus_named_bodies.specs.walrus_file_bodies.walrus_items_into.Filled.{IsFilledFrom}
 use Rattle.walrus_named_bodies.specs.walrus_file_bodies.walrus_items_into.Spaces.{Spaces}
 use Rattle.walrus_named_bodies.specs.walrus_item_names.Holder.{Holder}

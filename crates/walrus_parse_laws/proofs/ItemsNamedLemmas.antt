@@ -26,7 +26,7 @@ use Rattle.walrus_named_bodies.specs.walrus_file_bodies.walrus_items_into.walrus
 use Rattle.walrus_marks.specs.Named.{items_of}
 use Rattle.walrus_marks.specs.walrus_walks.ConstEvents.{ExprsTellOps, expr_names}
 use Rattle.walrus_marks.specs.walrus_walks.Events.{Event, NamesFunction, events_of, ref_names, val_names}
-use Rattle.walrus_named_bodies.specs.walrus_file_bodies.walrus_items_into.walrus_module_bodies.walrus_body_trees.walrus_meaning.Meaning.{means, own_data_mode, own_element, own_element_mode, own_elements, own_function, own_global, own_segment, own_table, own_tag, own_value_of}
+use Rattle.walrus_named_bodies.specs.walrus_file_bodies.walrus_items_into.walrus_module_bodies.walrus_body_trees.walrus_meaning.Meaning.{means, own_data_mode, own_element, own_element_mode, own_elements, own_function, own_global, own_segment, own_table, own_tag, own_value_of, table_init}
 use Rattle.walrus_named_bodies.specs.walrus_file_bodies.walrus_items_into.walrus_module_bodies.walrus_body_trees.walrus_meaning.Words.{own_expr}
 use Rattle.walrus_named_bodies.specs.walrus_item_names.walrus_module.Items.{Lives, LivesIn}
 use Rattle.walrus_named_bodies.specs.walrus_item_names.walrus_module.Parts.{Module, parts}
@@ -168,9 +168,9 @@ module _ (m : Module) (f : grammar.Module) (r : ℕ → ℕ) (h : HasItems r f (
         let is = is_from own_table (retyped_table r) m.tables.slots f.tables id t h.tables at in
         let named = each_at (λ (x : grammar.Table). RefBelow (length (types_of f)) x.element) f.tables id is.from ruled.named.tables is.there in
         let expressed = each_at (λ (x : grammar.Table). IsInit (knows_imported f) x.init) f.tables id is.from ruled.expressed.tables is.there in
-        items_join (Lives m) (ref_names t.element_ty) (init_names t.init)
+        items_join (Lives m) (ref_names t.element_ty) (init_names (table_init t))
         (ref_served (length (types_of f)) r (Lives m) typed t.element_ty is.from.element (ap (λ (x : grammar.Table). x.element) is.seen) named)
-        (init_live (filter is_imported f.globals) (filter_short is_imported f.globals) t.init is.from.init (ap (λ (x : grammar.Table). x.init) is.seen) expressed)
+        (init_live (filter is_imported f.globals) (filter_short is_imported f.globals) (table_init t) is.from.init (ap (λ (x : grammar.Table). x.init) is.seen) expressed)
 
     -- ---- tags
 

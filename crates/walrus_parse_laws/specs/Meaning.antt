@@ -15,8 +15,7 @@ use Rattle.walrus_named_bodies.specs.walrus_file_bodies.walrus_items_into.walrus
 use Rattle.walrus_named_bodies.specs.walrus_file_bodies.walrus_items_into.walrus_module_bodies.walrus_body_trees.walrus_meaning.walrus_linked.walrus_module_items.declared.data.Data.{Data}
 use Rattle.walrus_named_bodies.specs.walrus_file_bodies.walrus_items_into.walrus_module_bodies.walrus_body_trees.walrus_meaning.walrus_linked.walrus_module_items.declared.element.Element.{Element}
 use Rattle.walrus_named_bodies.specs.walrus_file_bodies.walrus_items_into.walrus_module_bodies.walrus_body_trees.walrus_meaning.walrus_module.Parts.{Module}
-use Rattle.walrus_named_bodies.specs.walrus_file_bodies.walrus_items_into.walrus_module_bodies.walrus_body_trees.walrus_meaning.walrus_module.walrus_types.Parsing.{Parsed, parsed, unparsed}
-use Rattle.walrus_named_bodies.specs.walrus_file_bodies.walrus_items_into.walrus_functions_into.walrus_types_into.Into.{no_types}
+use Rattle.walrus_named_bodies.specs.walrus_file_bodies.walrus_items_into.Numbers.{types_in}
 use Rattle.walrus_named_bodies.specs.walrus_file_bodies.walrus_items_into.walrus_functions_into.wasm_sections.Laws.{ReadsSections}
 use Rattle.walrus_named_bodies.specs.walrus_file_bodies.walrus_items_into.walrus_module_bodies.walrus_body_trees.walrus_meaning.Meaning.{slots_of, own_import, own_export, own_function, own_table, own_memory, own_global, own_tag, own_element, own_segment, means}
 use Rattle.walrus_named_bodies.specs.walrus_file_bodies.walrus_items_into.walrus_tables_into.walrus_sections.declared.section.Section.{Section}
@@ -115,10 +114,6 @@ abbrev pub CustomsMean : {B : Type 0} → (B → Custom) → Type 0
 CustomsMean {B} given = (s : Sections) (new : Arena (Section B)) → Filled IsCustomOf (plain s.customs.items) [] new.slots → slots_of (own_custom given) new ≡ map (λ c. Some (custom_of c)) (plain s.customs.items)
 
 -- ---- all of it
-
--- the types that were read, in a table that began empty
-abbrev pub types_in : Sections → Parsed
-types_in s = parsed s.types (unparsed no_types)
 
 -- a table and collections that began empty, filled with what was read
 pub record AreFilled (s : Sections) (look : Look) (m : Module) : Type 0 where

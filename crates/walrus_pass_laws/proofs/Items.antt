@@ -35,7 +35,7 @@ use Rattle.walrus_roots.specs.declared.item.Item.{Item}
 use Rattle.walrus_roots.specs.Items.{item}
 use Rattle.walrus_references.specs.References.{table_items, init_items, global_items, value_items, data_items, element_items, place_items, held_items}
 use Rattle.walrus_meaning.specs.Words.{own_expr, const_seen}
-use Rattle.walrus_meaning.specs.Meaning.{own_table, own_global, own_value_of, own_element, own_element_mode, own_elements, own_segment, own_data_mode}
+use Rattle.walrus_meaning.specs.Meaning.{table_init, own_table, own_global, own_value_of, own_element, own_element_mode, own_elements, own_segment, own_data_mode}
 use Rattle.walrus_pass_laws.specs.Items.{own_item, own_items, ItemsNameWhatIsMeant}
 use Rattle.walrus_pass_laws.proofs.Sets.{flat_append, map_append}
 
@@ -96,7 +96,7 @@ module _ (tell : ExprsTellOps) where
   two xs ys us vs e f = own_append xs ys ∙ ap (λ (l : List grammar.Item). l ++ own_items ys) e ∙ ap (λ (l : List grammar.Item). us ++ l) f
 
   pub table_meant : (t : Table) → own_items (table_items t) ≡ abstract.table_items (own_table t)
-  table_meant t = two (items_of (ref_names t.element_ty)) (init_items t.init) (abstract.ref_items t.element_ty) (abstract.init_items (option_map own_expr t.init)) (ref_meant t.element_ty) (init_meant t.init)
+  table_meant t = two (items_of (ref_names t.element_ty)) (init_items (table_init t)) (abstract.ref_items t.element_ty) (abstract.init_items (option_map own_expr (table_init t))) (ref_meant t.element_ty) (init_meant (table_init t))
 
   value_meant : (k : GlobalKind) → own_items (value_items k) ≡ abstract.origin_items abstract.expr_items (own_value_of k)
   value_meant (globals.Import i) = refl

@@ -39,7 +39,7 @@ use Rattle.walrus_roots.specs.declared.item.Item.{Item}
 use Rattle.walrus_roots.specs.Items.{item, space_number, IsShared, PushesShared}
 use Rattle.walrus_meaning.specs.walrus_linked.Linked.{IsLinked, IsWhole}
 use Rattle.walrus_passes.specs.walrus_refusals.walrus_used.walrus_references.References.{Refers, RefersIn, Named, named_by, table_items, global_items, tag_items, element_items, data_items, HasElement, HasData, IsActiveIn, IsCopiedInto}
-use Rattle.walrus_passes.specs.walrus_refusals.walrus_used.walrus_references.Roots.{Root, exports, starts, is_active, fills_import, declares, is_pushed}
+use Rattle.walrus_passes.specs.walrus_refusals.walrus_used.walrus_references.Roots.{Root, exports, starts, is_active, fills_import, fills_any, declares, is_pushed}
 use Rattle.walrus_passes.specs.walrus_refusals.walrus_used.walrus_references.Kept.{IsReached, IsSpared, Kept}
 use Rattle.walrus_passes.specs.walrus_refusals.walrus_used.walrus_references.Refused.{HasTree, IsTreeIn}
 use Rattle.walrus_passes.specs.walrus_refusals.Asked.{HasBody, IsWholeIn}
@@ -259,7 +259,7 @@ module _ (plain : WalkIsPlain) (nested : HeldAreNested) (trees : TreesAreNested)
 
   module _ (pushed : List Item) (push : PushesShared pushed) (all_plain : (x : Item) → IsReached m pushed x → IsPlainIn m x.space x.id) where
     abbrev Reached : grammar.Item → Type 0
-    Reached z = kept.IsReached (meant m) (own_items pushed) z
+    Reached z = kept.IsReached (meant m) m.config.keep_segments (own_items pushed) z
 
     given_is : (i : ExportItem) → own_item (given_out i) ≡ own_given i
     given_is (exported.Function id) = refl
@@ -280,15 +280,17 @@ module _ (plain : WalkIsPlain) (nested : HeldAreNested) (trees : TreesAreNested)
     root_shared x (starts f is) = low_at spaces.Function (omega arith)
     root_shared x (is_active d memory offset segment at is) = low_at spaces.Data (omega arith)
     root_shared x (fills_import e t offset segment table at is of brings) = low_at spaces.Element (omega arith)
+    root_shared x (fills_any e t offset segment all at is) = low_at spaces.Element (omega arith)
     root_shared x (declares e segment at is) = low_at spaces.Element (omega arith)
     root_shared x (is_pushed _ c) = push x c
 
-    root_forth : (x : Item) → Root m pushed x → roots.Root (means m) (own_items pushed) (own_item x)
-    root_forth x (exports e export at) = subst (roots.Root (means m) (own_items pushed)) (sym (given_is export.item)) (roots.exports e (own_export export) (slot_is own_export m.exports e export at))
+    root_forth : (x : Item) → Root m pushed x → roots.Root (means m) m.config.keep_segments (own_items pushed) (own_item x)
+    root_forth x (exports e export at) = subst (roots.Root (means m) m.config.keep_segments (own_items pushed)) (sym (given_is export.item)) (roots.exports e (own_export export) (slot_is own_export m.exports e export at))
     root_forth x (starts f is) = roots.starts f is
     root_forth x (is_active d memory offset segment at is) = roots.is_active d memory (own_expr offset) (own_segment segment) (slot_is own_segment m.data_segments d segment at) (ap own_data_mode is)
     root_forth x (fills_import e t offset segment table at is of brings) =
         roots.fills_import e t (own_expr offset) (own_element segment) (own_table table) (slot_is own_element m.elements e segment at) (ap own_element_mode is) (slot_is own_table m.tables t table of) brings
+    root_forth x (fills_any e t offset segment all at is) = roots.fills_any e t (own_expr offset) (own_element segment) all (slot_is own_element m.elements e segment at) (ap own_element_mode is)
     root_forth x (declares e segment at is) = roots.declares e (own_element segment) (slot_is own_element m.elements e segment at) (ap own_element_mode is)
     root_forth x (is_pushed _ c) = roots.is_pushed (own_item x) (owned_forth pushed (own_items pushed) refl x c)
 
@@ -306,7 +308,7 @@ module _ (plain : WalkIsPlain) (nested : HeldAreNested) (trees : TreesAreNested)
     element_declared elements.Passive e = absurd (let z : ⊥ = cc in z)
     element_declared elements.Declared e = refl
 
-    root_back : (z : grammar.Item) → roots.Root (means m) (own_items pushed) z → Root m pushed (item_of z)
+    root_back : (z : grammar.Item) → roots.Root (means m) m.config.keep_segments (own_items pushed) z → Root m pushed (item_of z)
     root_back z (roots.exports e export at) =
         let x = slot_from own_export m.exports e export at in
         let is : given_out x.0.item ≡ item_of export.item = ap item_of (given_is x.0.item ∙ ap (λ (y : grammar.Export). y.item) x.2) in
@@ -321,6 +323,10 @@ module _ (plain : WalkIsPlain) (nested : HeldAreNested) (trees : TreesAreNested)
         let k = element_active x.0.kind t offset (ap (λ (y : grammar.Element). y.mode) x.2 ∙ is) in
         let u = slot_from own_table m.tables t table of in
         fills_import e t k.0 x.0 u.0 x.1 k.1 u.1 (subst (λ (y : grammar.Table). IsSome y.imported) (sym u.2) brings)
+    root_back z (roots.fills_any e t offset segment all at is) =
+        let x = slot_from own_element m.elements e segment at in
+        let k = element_active x.0.kind t offset (ap (λ (y : grammar.Element). y.mode) x.2 ∙ is) in
+        fills_any e t k.0 x.0 all x.1 k.1
     root_back z (roots.declares e segment at is) =
         let x = slot_from own_element m.elements e segment at in
         declares e x.0 x.1 (element_declared x.0.kind (ap (λ (y : grammar.Element). y.mode) x.2 ∙ is))
@@ -359,7 +365,7 @@ module _ (plain : WalkIsPlain) (nested : HeldAreNested) (trees : TreesAreNested)
           | inr t ↦ refers (refers before t.1) t.2
         ]
 
-    spared_forth : (x : Item) → IsSpared m pushed x → kept.IsSpared (meant m) (own_items pushed) (own_item x)
+    spared_forth : (x : Item) → IsSpared m pushed x → kept.IsSpared (meant m) m.config.keep_segments (own_items pushed) (own_item x)
     spared_forth x h = record {
       memory = h.memory;
       is = ap own_item h.is;
@@ -372,7 +378,7 @@ module _ (plain : WalkIsPlain) (nested : HeldAreNested) (trees : TreesAreNested)
       no_memory = λ other r. h.no_memory other (reached_back (abstract.item spaces.Memory other) r);
     }
 
-    spared_back : (x : Item) → kept.IsSpared (meant m) (own_items pushed) (own_item x) → IsSpared m pushed x
+    spared_back : (x : Item) → kept.IsSpared (meant m) m.config.keep_segments (own_items pushed) (own_item x) → IsSpared m pushed x
     spared_back x h = record {
       memory = h.memory;
       is = ap item_of h.is;
@@ -385,9 +391,9 @@ module _ (plain : WalkIsPlain) (nested : HeldAreNested) (trees : TreesAreNested)
       no_memory = λ other r. h.no_memory other (found_shared (item spaces.Memory other) (low_at spaces.Memory (omega arith)) (found (item spaces.Memory other) r));
     }
 
-    kept_both : (x : Item) → IsShared x → Kept m pushed x ↔ kept.Kept (meant m) (own_items pushed) (own_item x)
+    kept_both : (x : Item) → IsShared x → Kept m pushed x ↔ kept.Kept (meant m) m.config.keep_segments (own_items pushed) (own_item x)
     kept_both x shared = (
-      λ h. elim h as (λ _. kept.Kept (meant m) (own_items pushed) (own_item x)) [ inl r ↦ inl (found_shared x shared (found x r)) | inr p ↦ inr (spared_forth x p) ],
+      λ h. elim h as (λ _. kept.Kept (meant m) m.config.keep_segments (own_items pushed) (own_item x)) [ inl r ↦ inl (found_shared x shared (found x r)) | inr p ↦ inr (spared_forth x p) ],
       λ h. elim h as (λ _. Kept m pushed x) [ inl r ↦ inl (reached_back (own_item x) r) | inr p ↦ inr (spared_back x p) ],
     )
 

@@ -38,6 +38,7 @@ use Rattle.walrus_passes.specs.walrus_refusals.walrus_used.walrus_module_items.F
 use Rattle.walrus_passes.specs.walrus_refusals.walrus_used.walrus_module.Parts.{Module}
 use Rattle.walrus_passes.specs.walrus_refusals.walrus_used.walrus_module.Items.{Lives, LivesIn, written, brought, given_out}
 use Rattle.walrus_linked.specs.Linked.{IsLinked, IsWhole, HasArguments, GroupsAreWritten, import_in}
+use Rattle.walrus_linked.specs.walrus_item_meaning.Meaning.{table_init}
 use Rattle.walrus_linked.specs.Names.{names, names_in, named_by, type_names, function_names, body_names, body_events, used_types, local_names, table_names, init_names, global_names, value_names, tag_names, element_names, element_kind_names, held_names, data_kind_names}
 use Rattle.walrus_roots.specs.declared.item.Item.{Item}
 use Rattle.walrus_roots.specs.Items.{item, space_number}
@@ -82,9 +83,9 @@ init_told (Some e) y c = c
 
 table_told : (o : Option Table) (y : Item) → Contains (items_of (named_by table_names o)) y → Contains (referred_by table_items o) y
 table_told None y c = c
-table_told (Some t) y c = elim (split (ref_names t.element_ty) (init_names t.init) y c) as (λ _. Contains (table_items t) y) [
-  | inl l ↦ Contains-append_left (items_of (ref_names t.element_ty)) (init_items t.init) y l
-  | inr r ↦ Contains-append_right (items_of (ref_names t.element_ty)) (init_items t.init) y (init_told t.init y r)
+table_told (Some t) y c = elim (split (ref_names t.element_ty) (init_names (table_init t)) y c) as (λ _. Contains (table_items t) y) [
+  | inl l ↦ Contains-append_left (items_of (ref_names t.element_ty)) (init_items (table_init t)) y l
+  | inr r ↦ Contains-append_right (items_of (ref_names t.element_ty)) (init_items (table_init t)) y (init_told (table_init t) y r)
 ]
 
 value_told : (k : GlobalKind) (y : Item) → Contains (items_of (value_names k)) y → Contains (value_items k) y

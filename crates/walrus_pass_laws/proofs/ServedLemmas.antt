@@ -52,13 +52,14 @@ use Rattle.walrus_passes.specs.walrus_refusals.walrus_used.walrus_module_items.F
 use Rattle.walrus_passes.specs.walrus_refusals.walrus_used.walrus_module.Parts.{Module}
 use Rattle.walrus_passes.specs.walrus_refusals.walrus_used.walrus_module.Items.{Lives, LivesIn, written, brought, given_out}
 use Rattle.walrus_linked.specs.Linked.{IsLinked, IsWhole, import_in}
+use Rattle.walrus_linked.specs.walrus_item_meaning.Meaning.{table_init}
 use Rattle.walrus_linked.specs.Names.{names, names_in, named_by, type_names, function_names, body_names, body_events, used_types, local_names, table_names, init_names, global_names, value_names, tag_names, element_names, element_kind_names, held_names, data_kind_names}
 use Rattle.walrus_roots.specs.declared.item.Item.{Item}
 use Rattle.walrus_roots.specs.Items.{item, space_number}
 use Rattle.walrus_marks.specs.Chains.{root, refers}
 use Rattle.walrus_marks.specs.Named.{event_items, items_of}
 use Rattle.walrus_passes.specs.walrus_refusals.walrus_used.walrus_references.References.{RefersIn, Named, KindNames, HasElement, HasData, IsActiveIn, IsCopiedInto, type_items, function_items, table_items, init_items, global_items, value_items, tag_items, element_items, place_items, held_items, data_items, local_items, named_by as referred_by}
-use Rattle.walrus_passes.specs.walrus_refusals.walrus_used.walrus_references.Roots.{Root, exports, starts, is_active, fills_import, declares, is_pushed}
+use Rattle.walrus_passes.specs.walrus_refusals.walrus_used.walrus_references.Roots.{Root, exports, starts, is_active, fills_import, fills_any, declares, is_pushed}
 use Rattle.walrus_passes.specs.walrus_refusals.walrus_used.walrus_references.Kept.{IsReached}
 use Rattle.walrus_passes.specs.walrus_refusals.walrus_used.walrus_references.Refused.{IsTreeIn, HasTree, FormsTree}
 use Rattle.walrus_passes.proofs.walrus_used.LooksLemmas.{none_in, first_in, only_in, cases_in}
@@ -85,9 +86,9 @@ init_back (Some e) y c = c
 
 table_back : (o : Option Table) (y : Item) → Contains (referred_by table_items o) y → Contains (items_of (named_by table_names o)) y
 table_back None y c = c
-table_back (Some t) y c = elim (Contains-append_cases (items_of (ref_names t.element_ty)) (init_items t.init) y c) as (λ _. Contains (items_of (table_names t)) y) [
-  | inl l ↦ join_left (ref_names t.element_ty) (init_names t.init) y l
-  | inr r ↦ join_right (ref_names t.element_ty) (init_names t.init) y (init_back t.init y r)
+table_back (Some t) y c = elim (Contains-append_cases (items_of (ref_names t.element_ty)) (init_items (table_init t)) y c) as (λ _. Contains (items_of (table_names t)) y) [
+  | inl l ↦ join_left (ref_names t.element_ty) (init_names (table_init t)) y l
+  | inr r ↦ join_right (ref_names t.element_ty) (init_names (table_init t)) y (init_back (table_init t) y r)
 ]
 
 value_back : (k : GlobalKind) (y : Item) → Contains (value_items k) y → Contains (items_of (value_names k)) y
@@ -324,6 +325,7 @@ module _ (plain : WalkIsPlain) (held : HeldAreNested) (nested : TreesAreNested) 
   root_fine x (starts f is) = low spaces.Function f (omega arith) (linked.started f is)
   root_fine x (is_active d memory offset segment at is) = low spaces.Data d (omega arith) (there (item_at m.data_segments d) segment at)
   root_fine x (fills_import e t offset segment table at is of brings) = low spaces.Element e (omega arith) (there (item_at m.elements e) segment at)
+  root_fine x (fills_any e t offset segment all at is) = low spaces.Element e (omega arith) (there (item_at m.elements e) segment at)
   root_fine x (declares e segment at is) = low spaces.Element e (omega arith) (there (item_at m.elements e) segment at)
   root_fine x (is_pushed y c) = plainly x (push x c).1 (push x c).0
 
@@ -374,7 +376,7 @@ module _ (plain : WalkIsPlain) (held : HeldAreNested) (nested : TreesAreNested) 
   refers_fine spaces.Type id y x (inr (group, has, ex, c)) = (let t = in_types group.types y c in subst Fine t.2 (low spaces.Type t.0 (omega arith) (linked.grouped has.place group has.live ex t.0 t.1)))
   refers_fine spaces.Function id y x h = function_fine id (item_at m.funcs id) refl y h
   refers_fine spaces.Table id y x (inl c) =
-      named_fine (item spaces.Table id) y x.0 (no_local_by table_names (λ t. no_local_both (ref_names t.element_ty) (init_names t.init) (no_local_ref t.element_ty) (no_local_init t.init)) (item_at m.tables id)) (table_back (item_at m.tables id) y c)
+      named_fine (item spaces.Table id) y x.0 (no_local_by table_names (λ t. no_local_both (ref_names t.element_ty) (init_names (table_init t)) (no_local_ref t.element_ty) (no_local_init (table_init t))) (item_at m.tables id)) (table_back (item_at m.tables id) y c)
   refers_fine spaces.Table id y x (inr h) = has_element id (item_at m.tables id) y h
   refers_fine spaces.Memory id y x h = has_data id (item_at m.memories id) y h
   refers_fine spaces.Tag id y x c =

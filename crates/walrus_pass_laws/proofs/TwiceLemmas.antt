@@ -33,7 +33,7 @@ use Rattle.walrus_roots.specs.declared.item.Item.{Item}
 use Rattle.walrus_roots.specs.Items.{item, space_number}
 use Rattle.walrus_marks.specs.Chains.{root, refers}
 use Rattle.walrus_passes.specs.walrus_refusals.walrus_used.walrus_references.References.{RefersIn, Named, named_by, type_items, function_items, table_items, global_items, tag_items, element_items, data_items, place_items, held_items, local_items, IsInGroup, HasElement, HasData, IsActiveIn, IsCopiedInto, KindNames}
-use Rattle.walrus_passes.specs.walrus_refusals.walrus_used.walrus_references.Roots.{Root, exports, starts, is_active, fills_import, declares, is_pushed}
+use Rattle.walrus_passes.specs.walrus_refusals.walrus_used.walrus_references.Roots.{Root, exports, starts, is_active, fills_import, fills_any, declares, is_pushed}
 use Rattle.walrus_passes.specs.walrus_refusals.walrus_used.walrus_references.Kept.{IsReached, IsSpared, Kept}
 use Rattle.walrus_passes.specs.walrus_refusals.walrus_used.walrus_references.Refused.{IsTreeIn, HasTree}
 use Rattle.walrus_passes.specs.walrus_refusals.Asked.{Linked, IsBrought, IsWholeIn, HasBody}
@@ -109,6 +109,9 @@ module _ (m n : Module) (pushed : List Item) (part : IsKeptPart m pushed n) wher
 
   pub locals_same : n.locals ≡ m.locals
   locals_same = ap (λ (k : Module). k.locals) part.others
+
+  keep_same : n.config.keep_segments ≡ m.config.keep_segments
+  keep_same = ap (λ (k : Module). k.config.keep_segments) part.others
 
   pub exports_same : n.exports ≡ m.exports
   exports_same = ap (λ (k : Module). k.exports) part.others
@@ -219,6 +222,8 @@ module _ (m n : Module) (pushed : List Item) (part : IsKeptPart m pushed n) wher
   root_forth x (fills_import e t offset segment table at is held brings) =
       let r : IsReached m pushed (item spaces.Element e) = root (fills_import e t offset segment table at is held brings) in
       fills_import e t offset segment table (elements_same e (inl r) ∙ at) is (tables_same t (inl (refers r (fills_table e t offset segment at is))) ∙ held) brings
+  root_forth x (fills_any e t offset segment all at is) =
+      fills_any e t offset segment (keep_same ∙ all) (elements_same e (inl (root (fills_any e t offset segment all at is))) ∙ at) is
   root_forth x (declares e segment at is) = declares e segment (elements_same e (inl (root (declares e segment at is))) ∙ at) is
   root_forth x (is_pushed y c) = is_pushed y c
 
@@ -227,6 +232,7 @@ module _ (m n : Module) (pushed : List Item) (part : IsKeptPart m pushed n) wher
   root_back x (starts f at) = starts f (sym start_same ∙ at)
   root_back x (is_active d memory offset segment at is) = is_active d memory offset segment (part.data_segments.only d segment at) is
   root_back x (fills_import e t offset segment table at is held brings) = fills_import e t offset segment table (part.elements.only e segment at) is (part.tables.only t table held) brings
+  root_back x (fills_any e t offset segment all at is) = fills_any e t offset segment (sym keep_same ∙ all) (part.elements.only e segment at) is
   root_back x (declares e segment at is) = declares e segment (part.elements.only e segment at) is
   root_back x (is_pushed y c) = is_pushed y c
 

@@ -84,9 +84,9 @@ abbrev pub ReferencesAreMeant : Type 0
 ReferencesAreMeant = (m : Module) → IsLinked m → AreGrouped m.types → (x y : Item) → IsShared x → IsShared y
     → RefersThrough m x y ↔ abstract.Refers (meant m) (own_item x) (own_item y)
 
--- what is kept of what a module means
+-- what is kept of what a module means, with all active element segments where its flag asks for it
 abbrev pub IsKeptMeant : Module → List Item → Item → Type 0
-IsKeptMeant m pushed x = KeptOf (meant m) (own_items pushed) (own_item x)
+IsKeptMeant m pushed x = KeptOf (meant m) m.config.keep_segments (own_items pushed) (own_item x)
 
 -- so that what is kept of it is what is kept of what it means
 abbrev pub KeptIsMeant : Type 0

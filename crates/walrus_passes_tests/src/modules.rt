@@ -33,6 +33,8 @@ pub(crate) enum Step {
     /// A table of 32 bits and the size 1, for function references.
     Table,
     ExportTable(usize),
+    /// An imported table, in whose field for an initialiser stands the function of this number.
+    ImportedTable(usize),
     /// A type of structures of one reference to the type of this number, whether that is there or not.
     Struct(usize),
     /// A table of references to the type, or to values of just this type.
@@ -108,6 +110,14 @@ fn add_function(alloc: Global, module: &mut Module) -> Result<(), AllocError> {
 fn add_imported(module: &mut Module) -> Result<(), AllocError> {
     let ty = module.types.add(&[], &[])?;
     module.add_import_func("m", "f", ty)?;
+    Ok(())
+}
+
+fn add_imported_table(module: &mut Module, index: usize) -> Result<(), AllocError> {
+    let (id, _) = module.add_import_table("m", "t", false, 1, None, RefType::FUNCREF)?;
+    if module.tables.contains(id) {
+        module.tables.get_mut(id).init = Some(ConstExpr::RefFunc(function(index)));
+    }
     Ok(())
 }
 
@@ -329,6 +339,7 @@ fn add(alloc: Global, module: &mut Module, step: Step) -> Result<(), AllocError>
             module.tables.add_local(false, 1, None, RefType::FUNCREF)?;
             Ok(())
         }
+        Step::ImportedTable(index) => add_imported_table(module, index),
         Step::TypedTable { ty, exact } => {
             module
                 .tables
@@ -473,6 +484,16 @@ fn are_taken(
 /// Whether each gc among these steps answers what it is to, and they leave so many types, functions, tables, elements
 /// and imports.
 pub(crate) fn leave(alloc: Global, steps: &[Step], counts: [usize; 5]) -> Result<bool, AllocError> {
-    let mut module = Module::with_config(alloc, ModuleConfig::new());
+    leave_with(alloc, ModuleConfig::new(), steps, counts)
+}
+
+/// The same of a module with these flags.
+pub(crate) fn leave_with(
+    alloc: Global,
+    config: ModuleConfig,
+    steps: &[Step],
+    counts: [usize; 5],
+) -> Result<bool, AllocError> {
+    let mut module = Module::with_config(alloc, config);
     are_taken(alloc, &mut module, steps, counts)
 }

@@ -1,8 +1,9 @@
 //! What gc deletes and refuses.
-use crate::modules::{Step, leave};
+use crate::modules::{Step, leave, leave_with};
+use walrus_config::ModuleConfig;
 
 // Steps, and how many types, functions, tables, elements and imports they leave.
-const ROWS: [(&[Step], [usize; 5]); 26] = [
+const ROWS: [(&[Step], [usize; 5]); 27] = [
     // A table that is exported keeps its segment, with the function and its type.
     (
         &[
@@ -220,6 +221,17 @@ const ROWS: [(&[Step], [usize; 5]); 26] = [
         ],
         [0, 0, 0, 0, 0],
     ),
+    // An imported table has no initialiser: a function in that field isn't kept, and may be deleted.
+    (
+        &[
+            Step::Function,
+            Step::ImportedTable(0),
+            Step::ExportTable(0),
+            Step::Gc(0),
+            Step::Gc(0),
+        ],
+        [0, 0, 1, 0, 1],
+    ),
     // A type may name itself and those before it, and none past its own group.
     (
         &[
@@ -339,4 +351,25 @@ fn gc_deletes_and_refuses(rt: HostRuntime) {
     for (steps, counts) in ROWS {
         assert!(rt; matches!(leave(rt.alloc(), steps, counts), Ok(true)));
     }
+}
+
+// A segment of a table that isn't exported any more.
+const UNEXPORTED: [Step; 7] = [
+    Step::Table,
+    Step::ExportTable(0),
+    Step::Function,
+    Step::Segment {
+        table: 0,
+        function: 0,
+    },
+    Step::Gc(0),
+    Step::DeleteExport(0),
+    Step::Gc(0),
+];
+
+#[test]
+fn all_active_segments_are_kept(rt: HostRuntime) {
+    let mut config = ModuleConfig::new();
+    config.keep_segments(true);
+    assert!(rt; matches!(leave_with(rt.alloc(), config, &UNEXPORTED, [1, 1, 1, 1, 0]), Ok(true)));
 }

@@ -149,7 +149,8 @@ fn set_some(config: &mut ModuleConfig) {
         .strict_validate(false)
         .generate_synthetic_names_for_anonymous_items(true)
         .only_stable_features(true)
-        .legacy_exceptions(false);
+        .legacy_exceptions(false)
+        .keep_segments(true);
 }
 
 #[test]
@@ -157,6 +158,6 @@ fn a_chain_of_setters_sets_its_flags(rt: HostRuntime) {
     let mut config = ModuleConfig::new();
     set_some(&mut config);
     assert!(rt;
-        !config.generate_name_section && config.generate_dwarf && !config.legacy_exceptions
+        !config.generate_name_section && config.generate_dwarf && config.keep_segments
     );
 }

@@ -17,6 +17,7 @@ use Rattle.walrus_marks.specs.walrus_walks.Tree.{children}
 use Rattle.walrus_marks.specs.walrus_walks.Events.{names, block_names, val_names, ref_names}
 use Rattle.walrus_marks.specs.walrus_walks.ConstEvents.{expr_names}
 use Rattle.walrus_module.specs.walrus_builder.Functions.{seqs_of}
+use Rattle.walrus_item_meaning.specs.Meaning.{table_init}
 use Rattle.walrus_module.specs.walrus_module_items.declared.function.Function.{Function}
 use Rattle.walrus_module.specs.walrus_module_items.declared.function.FunctionKind.{FunctionKind}
 use Rattle.walrus_module.specs.walrus_module_items.declared.function.FunctionKind.TheVariants as functions
@@ -146,7 +147,7 @@ abbrev pub function_items : Function → List Item
 function_items f = item spaces.Type (type_of f.kind) ∷ []
 
 abbrev pub table_items : Table → List Item
-table_items t = items_of (ref_names t.element_ty) ++ init_items t.init
+table_items t = items_of (ref_names t.element_ty) ++ init_items (table_init t)
 
 abbrev pub global_items : Global → List Item
 global_items g = items_of (val_names g.ty) ++ value_items g.kind

@@ -1,5 +1,5 @@
 -- Roots: the items that are kept for themselves.
-use Rattle.std.specs.Prelude.{◌≡◌, ℕ, Some, IsSome, List, Contains}
+use Rattle.std.specs.Prelude.{◌≡◌, ℕ, true, Some, IsSome, List, Contains}
 use Rattle.wasm_formats.specs.declared.fault.Space.TheVariants as spaces
 use Rattle.walrus_arena.specs.Arena.{item_at}
 use Rattle.walrus_instr.specs.declared.const_expr.ConstExpr.{ConstExpr}
@@ -14,8 +14,8 @@ use Rattle.walrus_module.specs.Items.{given_out}
 use Rattle.walrus_roots.specs.declared.item.Item.{Item}
 use Rattle.walrus_roots.specs.Items.{item}
 
--- what exports give out; the start function; active data segments; active element segments of imported tables; declared
--- element segments; and what custom sections push
+-- what exports give out; the start function; active data segments; active element segments of imported tables, or all active ones
+-- where the module's flag asks for it; declared element segments; and what custom sections push
 pub data Root (m : Module) (pushed : List Item) : Item → Type 0 where
   exports : (e : ℕ) (export : Export) → item_at m.exports e ≡ Some export → Root m pushed (given_out export.item)
   starts : (f : ℕ) → m.start ≡ Some f → Root m pushed (item spaces.Function f)
@@ -23,5 +23,7 @@ pub data Root (m : Module) (pushed : List Item) : Item → Type 0 where
       → Root m pushed (item spaces.Data d)
   fills_import : (e t : ℕ) (offset : ConstExpr) (segment : Element) (table : Table) → item_at m.elements e ≡ Some segment → segment.kind ≡ elements.Active t offset
       → item_at m.tables t ≡ Some table → IsSome table.import → Root m pushed (item spaces.Element e)
+  fills_any : (e t : ℕ) (offset : ConstExpr) (segment : Element) → m.config.keep_segments ≡ true → item_at m.elements e ≡ Some segment → segment.kind ≡ elements.Active t offset
+      → Root m pushed (item spaces.Element e)
   declares : (e : ℕ) (segment : Element) → item_at m.elements e ≡ Some segment → segment.kind ≡ elements.Declared → Root m pushed (item spaces.Element e)
   is_pushed : (x : Item) → Contains pushed x → Root m pushed x

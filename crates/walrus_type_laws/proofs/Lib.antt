@@ -12,3 +12,16 @@ pub mod Steady
 pub mod Straight
 pub mod TurnLemmas
 pub mod Written
+pub mod Deleted
+pub mod EditLemmas
+pub mod Grown
+pub mod LocalLemmas
+pub mod OrdinaryLemmas
+mod Exchange
+mod Filled
+mod Follows
+mod Kept
+mod Renamed
+mod Starts
+mod SwapLemmas
+mod Turned

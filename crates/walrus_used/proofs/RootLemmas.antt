@@ -1,9 +1,9 @@
 -- What is met for the roots.
 use Rattle.std.proofs.Common.{◌≡◌, ◌∙◌, ◌⊎◌, ◌+◌, ◌<◌, ◌≤◌, ℕ, true, List, [], ◌∷◌, length, Option, Some, None, Contains, refl, sym, ap, subst, inl, inr, arith}
-use Rattle.std.specs.Prelude.{◌↔◌, IsSome, MatchOption}
+use Rattle.std.specs.Prelude.{◌↔◌, ◌||◌, IsSome, MatchOption}
 use Rattle.std.specs.List.{fold}
 use Rattle.std.proofs.lemmas.List.{get_or_past}
-use Rattle.std.proofs.lemmas.Bool.{cases_lt, false≢true}
+use Rattle.std.proofs.lemmas.Bool.{cases_lt, false≢true, or_cases, or_left, or_right}
 use Rattle.wasm_formats.specs.declared.fault.Space.TheVariants as spaces
 use Rattle.walrus_arena.specs.Arena.{Arena, item_at, IsLive}
 use Rattle.walrus_instr.specs.declared.const_expr.ConstExpr.{ConstExpr}
@@ -20,7 +20,7 @@ use Rattle.walrus_roots.specs.declared.item.Item.{Item}
 use Rattle.walrus_roots.specs.Items.{item}
 use Rattle.walrus_marks.specs.Marks.{State, meet}
 use Rattle.walrus_marks.specs.Chains.{Meets}
-use Rattle.walrus_references.specs.Roots.{Root, exports, starts, is_active, fills_import, declares, is_pushed}
+use Rattle.walrus_references.specs.Roots.{Root, exports, starts, is_active, fills_import, fills_any, declares, is_pushed}
 use Rattle.walrus_references.specs.walrus_module.Items.{given_out}
 use Rattle.walrus_used.specs.Picks.{AreRooted, Below, IsPickedAt, IsPicked, OtherRootWith, RootIn, RootWith, active_data, is_imported, rooted_element, start_items}
 use Rattle.walrus_used.proofs.MeetsLemmas.{AreJust, just_all, meets_list, meets_same, meets_then, below_all}
@@ -71,7 +71,7 @@ module _ (m : Module) (pushed : List Item) where
   Copied x = IsPicked (λ id (d : Data) y. Contains (active_data id d.kind) y) m.data_segments x
 
   abbrev Rooted : Item → Type 0
-  Rooted x = IsPicked (λ id (e : Element) y. Contains (rooted_element m.tables id e.kind) y) m.elements x
+  Rooted x = IsPicked (λ id (e : Element) y. Contains (rooted_element m.config.keep_segments m.tables id e.kind) y) m.elements x
 
   export_root : (e : ℕ) (o : Option Export) (x : Item) → item_at m.exports e ≡ o → MatchOption o ⊥ (λ (e : Export). Contains (given_out e.item ∷ []) x) → Root m pushed x
   export_root e None x at h = absurd h
@@ -89,14 +89,17 @@ module _ (m : Module) (pushed : List Item) where
   filled_root e t offset segment None x at is there imported same = absurd (false≢true imported)
   filled_root e t offset segment (Some table) x at is there imported same = subst (Root m pushed) same (fills_import e t offset segment table at is there imported)
 
-  place_root : (e : ℕ) (segment : Element) (kind : ElementKind) (x : Item) → item_at m.elements e ≡ Some segment → segment.kind ≡ kind → Contains (rooted_element m.tables e kind) x → Root m pushed x
+  place_root : (e : ℕ) (segment : Element) (kind : ElementKind) (x : Item) → item_at m.elements e ≡ Some segment → segment.kind ≡ kind → Contains (rooted_element m.config.keep_segments m.tables e kind) x → Root m pushed x
   place_root e segment elements.Passive x at is h = absurd (none_in x h)
   place_root e segment elements.Declared x at is h = subst (Root m pushed) (only_in (item spaces.Element e) x h) (declares e segment at is)
   place_root e segment (elements.Active t offset) x at is h =
-      let one = one_live (is_imported (item_at m.tables t)) (item spaces.Element e) x h in
-      filled_root e t offset segment (item_at m.tables t) x at is refl one.0 one.1
+      let one = one_live (m.config.keep_segments || is_imported (item_at m.tables t)) (item spaces.Element e) x h in
+      elim (or_cases m.config.keep_segments (is_imported (item_at m.tables t)) one.0) as (λ _. Root m pushed x) [
+        | inl all ↦ subst (Root m pushed) one.1 (fills_any e t offset segment all at is)
+        | inr imported ↦ filled_root e t offset segment (item_at m.tables t) x at is refl imported one.1
+      ]
 
-  element_root : (e : ℕ) (o : Option Element) (x : Item) → item_at m.elements e ≡ o → MatchOption o ⊥ (λ (s : Element). Contains (rooted_element m.tables e s.kind) x) → Root m pushed x
+  element_root : (e : ℕ) (o : Option Element) (x : Item) → item_at m.elements e ≡ o → MatchOption o ⊥ (λ (s : Element). Contains (rooted_element m.config.keep_segments m.tables e s.kind) x) → Root m pushed x
   element_root e None x at h = absurd h
   element_root e (Some segment) x at h = place_root e segment segment.kind x at refl h
 
@@ -114,6 +117,15 @@ module _ (m : Module) (pushed : List Item) where
   met_root x (inl (inr h)) = is_pushed x h
   met_root x (inr h) = start_root m.start x refl h
 
+  filled_met : (e t : ℕ) (offset : ConstExpr) (segment : Element) → item_at m.elements e ≡ Some segment → segment.kind ≡ elements.Active t offset → (m.config.keep_segments || is_imported (item_at m.tables t)) ≡ true → Met (item spaces.Element e)
+  filled_met e t offset segment at is listed =
+      inl (inl (inr (
+        e,
+        subst (λ (o : Option Element). MatchOption o ⊥ (λ (s : Element). Contains (rooted_element m.config.keep_segments m.tables e s.kind) (item spaces.Element e))) (sym at)
+            (subst (λ kind. Contains (rooted_element m.config.keep_segments m.tables e kind) (item spaces.Element e)) (sym is)
+            (one_back (m.config.keep_segments || is_imported (item_at m.tables t)) (item spaces.Element e) (item spaces.Element e) listed refl)),
+      )))
+
   root_met : (x : Item) → Root m pushed x → Met x
   root_met x (exports e export at) = inl (inl (inl (inl (e, subst (λ (o : Option Export). MatchOption o ⊥ (λ (e : Export). Contains (given_out e.item ∷ []) (given_out export.item))) (sym at) (first_in (given_out export.item) [])))))
   root_met x (starts f is) = inr (subst (λ (o : Option ℕ). Contains (start_items o) (item spaces.Function f)) (sym is) (first_in (item spaces.Function f) []))
@@ -124,17 +136,13 @@ module _ (m : Module) (pushed : List Item) where
             (subst (λ kind. Contains (active_data d kind) (item spaces.Data d)) (sym is) (first_in (item spaces.Data d) [])),
       ))))
   root_met x (fills_import e t offset segment table at is there imported) =
-      inl (inl (inr (
-        e,
-        subst (λ (o : Option Element). MatchOption o ⊥ (λ (s : Element). Contains (rooted_element m.tables e s.kind) (item spaces.Element e))) (sym at)
-            (subst (λ kind. Contains (rooted_element m.tables e kind) (item spaces.Element e)) (sym is)
-            (one_back (is_imported (item_at m.tables t)) (item spaces.Element e) (item spaces.Element e) (ap is_imported there ∙ imported) refl)),
-      )))
+      filled_met e t offset segment at is (or_right m.config.keep_segments (is_imported (item_at m.tables t)) (ap is_imported there ∙ imported))
+  root_met x (fills_any e t offset segment all at is) = filled_met e t offset segment at is (or_left m.config.keep_segments (is_imported (item_at m.tables t)) all)
   root_met x (declares e segment at is) =
       inl (inl (inr (
         e,
-        subst (λ (o : Option Element). MatchOption o ⊥ (λ (s : Element). Contains (rooted_element m.tables e s.kind) (item spaces.Element e))) (sym at)
-            (subst (λ kind. Contains (rooted_element m.tables e kind) (item spaces.Element e)) (sym is) (first_in (item spaces.Element e) [])),
+        subst (λ (o : Option Element). MatchOption o ⊥ (λ (s : Element). Contains (rooted_element m.config.keep_segments m.tables e s.kind) (item spaces.Element e))) (sym at)
+            (subst (λ kind. Contains (rooted_element m.config.keep_segments m.tables e kind) (item spaces.Element e)) (sym is) (first_in (item spaces.Element e) [])),
       )))
   root_met x (is_pushed y c) = inl (inr c)
 

@@ -1,5 +1,5 @@
 -- Segments by table.
-use Rattle.std.proofs.Common.{◌≡◌, ◌∙◌, ◌⊎◌, ◌+◌, ◌<◌, ◌≤◌, ℕ, List, [], ◌∷◌, ◌++◌, length, map, get_or, Option, Some, None, Contains, refl, sym, ap, subst, inl, inr, arith}
+use Rattle.std.proofs.Common.{◌≡◌, ◌∙◌, ◌⊎◌, ◌+◌, ◌<◌, ◌≤◌, ℕ, Bool, List, [], ◌∷◌, ◌++◌, length, map, get_or, Option, Some, None, Contains, refl, sym, ap, subst, inl, inr, arith}
 use Rattle.std.specs.Prelude.{IsSome, MatchOption, replicate}
 use Rattle.std.proofs.Math.ListN.{set, length-set}
 use Rattle.std.proofs.lemmas.List.{get_or-map, map-set, get_or-set_same, get_or-set_other, get_or_past, set_past, get_or-replicate, length-replicate}
@@ -139,7 +139,7 @@ module _ (m : Module) where
 
 -- ---- those that are roots
 abbrev pub rooted_at : Module → ℕ → Element → Item → Type 0
-rooted_at m id e y = Contains (rooted_element m.tables id e.kind) y
+rooted_at m id e y = Contains (rooted_element m.config.keep_segments m.tables id e.kind) y
 
 -- just those below this number
 abbrev pub RootedBelow : Module → ℕ → List Item → Type 0
@@ -149,10 +149,11 @@ module _ (m : Module) where
   pub none_rooted : (rooted : List Item) → rooted ≡ [] → RootedBelow m 0 rooted
   none_rooted rooted is = just_none (IsPickedAt (rooted_at m) m.elements) rooted is
 
-  pub more_rooted : (n : ℕ) (rooted others : List Item) (element : Element) → item_at m.elements n ≡ Some element → others ≡ rooted ++ rooted_element m.tables n element.kind → RootedBelow m n rooted → RootedBelow m (n + 1) others
-  more_rooted n rooted others element at to h =
-      just_more (IsPickedAt (rooted_at m) m.elements) n rooted (rooted_element m.tables n element.kind) others to h
-      (picked_just (rooted_at m) m.elements n element (rooted_element m.tables n element.kind) at (λ x. (λ c. c, λ c. c)))
+  pub more_rooted : (n : ℕ) (rooted others : List Item) (element : Element) (keep : Bool) → keep ≡ m.config.keep_segments → item_at m.elements n ≡ Some element → others ≡ rooted ++ rooted_element keep m.tables n element.kind → RootedBelow m n rooted
+      → RootedBelow m (n + 1) others
+  more_rooted n rooted others element keep asked at to h =
+      just_more (IsPickedAt (rooted_at m) m.elements) n rooted (rooted_element m.config.keep_segments m.tables n element.kind) others (to ∙ ap (λ (b : Bool). rooted ++ rooted_element b m.tables n element.kind) asked) h
+      (picked_just (rooted_at m) m.elements n element (rooted_element m.config.keep_segments m.tables n element.kind) at (λ x. (λ c. c, λ c. c)))
 
   pub dead_rooted : (n : ℕ) (rooted : List Item) → (IsLive m.elements n → ⊥) → RootedBelow m n rooted → RootedBelow m (n + 1) rooted
   dead_rooted n rooted dead h = just_skip (IsPickedAt (rooted_at m) m.elements) n rooted (λ x p. dead_picks (rooted_at m) m.elements n x dead p) h

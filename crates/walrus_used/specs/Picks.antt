@@ -1,5 +1,5 @@
 -- What is met for each item of a collection.
-use Rattle.std.specs.Prelude.{◌≡◌, ℕ, ◌+◌, ◌<◌, ◌⊎◌, ◌↔◌, Bool, false, List, [], ◌∷◌, Option, Some, None, is_some, Contains, MatchOption, if◌then◌else◌}
+use Rattle.std.specs.Prelude.{◌≡◌, ℕ, ◌+◌, ◌<◌, ◌⊎◌, ◌↔◌, ◌||◌, Bool, false, List, [], ◌∷◌, Option, Some, None, is_some, Contains, MatchOption, if◌then◌else◌}
 use Rattle.wasm_formats.specs.declared.fault.Space.TheVariants as spaces
 use Rattle.walrus_arena.specs.Arena.{Arena, item_at}
 use Rattle.walrus_references.specs.walrus_module_items.declared.table.Table.{Table}
@@ -36,11 +36,11 @@ abbrev pub is_imported : Option Table → Bool
 is_imported (Some table) = is_some table.import
 is_imported None = false
 
--- a declared element segment, or an active one of an imported table
-abbrev pub rooted_element : Arena Table → ℕ → ElementKind → List Item
-rooted_element tables id elements.Passive = []
-rooted_element tables id elements.Declared = item spaces.Element id ∷ []
-rooted_element tables id (elements.Active t _) = if is_imported (item_at tables t) then item spaces.Element id ∷ [] else []
+-- a declared element segment, or an active one: of an imported table, or any where all are kept
+abbrev pub rooted_element : (keep : Bool) → Arena Table → ℕ → ElementKind → List Item
+rooted_element keep tables id elements.Passive = []
+rooted_element keep tables id elements.Declared = item spaces.Element id ∷ []
+rooted_element keep tables id (elements.Active t _) = if keep || is_imported (item_at tables t) then item spaces.Element id ∷ [] else []
 
 -- the start function
 abbrev pub start_items : Option ℕ → List Item
@@ -49,7 +49,7 @@ start_items None = []
 
 -- just these element segments are roots
 abbrev pub AreRooted : Module → List Item → Type 0
-AreRooted m rooted = (x : Item) → Contains rooted x ↔ IsPicked (λ id (e : Element) y. Contains (rooted_element m.tables id e.kind) y) m.elements x
+AreRooted m rooted = (x : Item) → Contains rooted x ↔ IsPicked (λ id (e : Element) y. Contains (rooted_element m.config.keep_segments m.tables id e.kind) y) m.elements x
 
 -- the item is given out, a segment that is copied, one of these segments, pushed, or the start function
 abbrev pub RootWith : Module → List Item → List Item → Item → Type 0

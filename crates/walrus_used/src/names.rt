@@ -4,6 +4,7 @@ ghost use Rattle.std.specs.List.{fold, flat_map};
 ghost use Rattle.wasm_formats.specs.declared.fault.Space.TheVariants as spaces;
 ghost use Rattle.walrus_walks.specs.Events.{ref_names, val_names};
 ghost use Rattle.walrus_walks.specs.ConstEvents.{expr_names};
+ghost use Rattle.walrus_item_meaning.specs.Meaning.{table_init};
 ghost use Rattle.walrus_roots.specs.Items.{item};
 ghost use Rattle.walrus_marks.specs.Marks.{meet};
 ghost use Rattle.walrus_marks.specs.Named.{items_of};
@@ -12,6 +13,7 @@ ghost use Rattle.walrus_references.specs.References.{init_items, value_items, da
 use walrus_arena::{FunctionId, TypeId};
 use walrus_forms::{HeapType, RefType, ValType};
 use walrus_instr::ConstExpr;
+use walrus_item_meaning::table_init;
 use walrus_marks::Marks;
 use walrus_module::module_items::{
     DataKind, Element, ElementItems, ElementKind, Global, GlobalKind, Table,
@@ -65,20 +67,21 @@ fn meet_exprs(marks: &mut Marks, exprs: &[ConstExpr])
     }
 }
 
-fn meet_init(marks: &mut Marks, init: &Option<ConstExpr>)
-    ensures { marks.new ≡ fold meet marks.old (init_items init.now) }
+fn meet_init(marks: &mut Marks, table: &Table)
+    ensures { marks.new ≡ fold meet marks.old (init_items (table_init table.now)) }
 {
-    if let Some(init) = init {
-        marks.meet_told(init);
+    match table_init(table) {
+        Some(init) => marks.meet_told(init),
+        None => {}
     }
 }
 
 /// Meets the element type of a table, and what its initialiser names.
 pub(crate) fn meet_table(marks: &mut Marks, table: &Table)
-    ensures { marks.new ≡ fold meet marks.old (items_of (ref_names table.now.element_ty) ++ init_items table.now.init) }
+    ensures { marks.new ≡ fold meet marks.old (items_of (ref_names table.now.element_ty) ++ init_items (table_init table.now)) }
 {
     meet_ref_type(marks, &table.element_ty);
-    meet_init(marks, &table.init);
+    meet_init(marks, table);
 }
 
 fn meet_value(marks: &mut Marks, kind: &GlobalKind)

@@ -1,5 +1,5 @@
 //! Meeting the roots of a module.
-ghost use Rattle.std.specs.Prelude.{◌≡◌, ◌+◌, ◌++◌, ℕ, List, [], ◌∷◌, Contains, OnOk};
+ghost use Rattle.std.specs.Prelude.{◌≡◌, ◌+◌, ◌++◌, ◌||◌, ℕ, List, [], ◌∷◌, Contains, OnOk};
 ghost use Rattle.std.specs.List.{fold};
 ghost use Rattle.walrus_roots.specs.declared.item.Item.{Item as AnyItem};
 ghost use Rattle.walrus_marks.specs.Marks.{meet};
@@ -106,24 +106,32 @@ fn is_imported(tables: &ModuleTables, table: TableId) -> bool
     tables.contains(table) && tables.get(table).import.is_some()
 }
 
-/// Puts an element segment into the list, if it is declared, or active in an imported table.
+// Whether active segments of the table are roots: where all are kept, or the table is imported.
+fn is_rooted(keep: bool, tables: &ModuleTables, table: TableId) -> bool
+    ensures { result ≡ (keep || is_imported (item_at tables.now table)) }
+{
+    keep || is_imported(tables, table)
+}
+
+/// Puts an element segment into the list, if it is declared, or active: in an imported table, or in any where all are kept.
 ///
 /// # Errors
 ///
 /// Want of memory.
 pub(crate) fn list_rooted(
     rooted: &mut Vec<Item>,
+    keep: bool,
     tables: &ModuleTables,
     id: ElementId,
     kind: &ElementKind,
 ) -> Result<(), AllocError>
-    ensures { OnOk result (rooted.new.items ≡ rooted.old.items ++ rooted_element tables.now id kind.now) }
+    ensures { OnOk result (rooted.new.items ≡ rooted.old.items ++ rooted_element keep tables.now id kind.now) }
 {
     match kind {
         ElementKind::Passive => {}
         ElementKind::Declared => rooted.push(Item::new(Space::Element, id))?,
         ElementKind::Active { table, .. } => {
-            if is_imported(tables, *table) {
+            if is_rooted(keep, tables, *table) {
                 rooted.push(Item::new(Space::Element, id))?;
             }
         }

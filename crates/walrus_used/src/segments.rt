@@ -81,7 +81,13 @@ pub(crate) fn element_segments<B>(alloc: Global, input: &Module<B>) -> Result<Se
         if input.elements.contains(id) {
             let kind = &input.elements.get(id).kind;
             list_segment(&mut active, id, kind)?;
-            list_rooted(&mut rooted, &input.tables, id, kind)?;
+            list_rooted(
+                &mut rooted,
+                input.config().keep_segments,
+                &input.tables,
+                id,
+                kind,
+            )?;
         }
     }
     Ok(Segments { active, rooted })

@@ -1,3 +1,4 @@
 mod Computed
 mod OrderLemmas
 mod NameLemmas
+mod NamedModuleLemmas

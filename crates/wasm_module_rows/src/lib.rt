@@ -6,6 +6,7 @@ ghost use Rattle.wasm_module_rows.specs.Stopped.{FilesStop};
 ghost use Rattle.wasm_module_rows.specs.Faults.{FaultsStop};
 ghost use Rattle.wasm_module_rows.specs.Orders.{OrdersHold};
 ghost use Rattle.wasm_module_rows.specs.Named.{NamesKept};
+ghost use Rattle.wasm_module_rows.specs.NamedModules.{ModulesAreNamed};
 ghost use Rattle.wasm_module_rows.specs.Picks.{PicksStand};
 
 /// Worked files read as the modules that they are to be.
@@ -34,6 +35,11 @@ pub fn first_faults_stop()
 /// sections both are read, and the last name wins.
 pub fn names_are_kept()
     ensures { NamesKept }
+{}
+
+/// With their names and producers modules are without the sections that hold them; of names the last one stays, by rising number.
+pub fn modules_are_named()
+    ensures { ModulesAreNamed }
 {}
 
 /// A type that merges with an earlier one is no pick: the pick is the latest type that serves, of those that stand for themselves.

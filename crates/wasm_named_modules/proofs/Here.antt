@@ -15,7 +15,11 @@ use Rattle.wasm_name_payloads.specs.Keepers.{Rest, Behind, Ended, Wrong, Keeper,
 use Rattle.wasm_name_payloads.specs.Joined.{continued, times, led_by, led, each}
 use Rattle.wasm_name_payloads.specs.Windows.{closed, window, parts_of}
 use Rattle.wasm_name_payloads.specs.Names.{Bearer, TheModule, ALocal, Given, given, same_name, text, counted, association, named_below, name_map, local_count, known_function, local_names, Part, ModuleName, ItemNames, LocalNames, Skipped, part_of, item_in, contents, subsection, takes_some, section_name, names_if, names_of}
-use Rattle.wasm_named_modules.specs.Modules.{IsHere, AreHere}
+use Rattle.wasm_named_modules.specs.Modules.{IsHere}
+
+abbrev pub AreHere : Module → List Given → Type 0
+AreHere m [] = Unit {0}
+AreHere m (g ∷ names) = IsHere m g.bearer × AreHere m names
 
 module _ (m : Module) where
   here_joined : (xs ys : List Given) → AreHere m xs → AreHere m ys → AreHere m (xs ++ ys)

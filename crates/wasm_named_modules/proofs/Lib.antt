@@ -1,2 +1,4 @@
+pub mod Entries
 pub mod Here
+pub mod Last
 pub mod Reading

@@ -1,5 +1,5 @@
 -- Lemmas: the part that has just what is kept is closed.
-use Rattle.std.specs.Prelude.{ℕ, zero, suc, ◌≡◌, List, [], ◌∷◌, map, Contains, Option, Some, None, slice_get, slice_index_or, refl}
+use Rattle.std.specs.Prelude.{ℕ, zero, suc, ◌≡◌, Bool, List, [], ◌∷◌, map, Contains, Option, Some, None, slice_get, slice_index_or, refl}
 use Rattle.std.specs.List.{AllByRecursion, flat_map}
 use Rattle.std.specs.Option.{option_to_list}
 use Rattle.std.proofs.Common.{ap, sym, subst, arith, inl, inr}
@@ -39,10 +39,10 @@ each_all P (x ∷ xs) Q f h = (go x h.0, each_all P xs Q f h.1)
     go [] h = tt
     go (y ∷ x) h = (f y h.0, go x h.1)
 
-module _ (v : Numbered) (pushed : List Item) (p : Plan) (a b : Around) (kept : HasKept v pushed p) (picks : PicksServe p a b) where
+module _ (v : Numbered) (keep : Bool) (pushed : List Item) (p : Plan) (a b : Around) (kept : HasKept v keep pushed p) (picks : PicksServe p a b) where
   -- ---- what is kept is in the part
 
-  item_in : (space : FileSpace) (n : ℕ) → Kept v pushed (item space n) → ItemIn p space n
+  item_in : (space : FileSpace) (n : ℕ) → Kept v keep pushed (item space n) → ItemIn p space n
   item_in spaces.«Type» n h = kept.has Types n tt h
   item_in spaces.Function n h = kept.has Functions n tt h
   item_in spaces.Table n h = kept.has Tables n tt h
@@ -61,11 +61,11 @@ module _ (v : Numbered) (pushed : List Item) (p : Plan) (a b : Around) (kept : H
   AllIn = AllByRecursion AnItemIn
 
   -- what is listed is reached, memories aside
-  reached : (space : FileSpace) (n : ℕ) → (space ≡ spaces.Memory → ⊥) → Kept v pushed (item space n) → IsReached v pushed (item space n)
+  reached : (space : FileSpace) (n : ℕ) → (space ≡ spaces.Memory → ⊥) → Kept v keep pushed (item space n) → IsReached v keep pushed (item space n)
   reached space n other (inl h) = h
   reached space n other (inr h) = absurd (other (ap (λ (i : Item). i.space) h.is))
 
-  names_in : (x : Item) (items : List Item) → IsReached v pushed x → ((y : Item) → Contains items y → Refers v x y) → AllIn items
+  names_in : (x : Item) (items : List Item) → IsReached v keep pushed x → ((y : Item) → Contains items y → Refers v x y) → AllIn items
   names_in x items h names = all_of AnItemIn items (λ y c. item_in y.space y.number (inl (refers h (names y c))))
 
   -- ---- from items to names
@@ -205,7 +205,7 @@ module _ (v : Numbered) (pushed : List Item) (p : Plan) (a b : Around) (kept : H
     imports = λ i n at x e. item_in x.item.space x.item.number (kept.imports i n at x e);
     exports = λ i n at x e. item_in x.item.space x.item.number (inl (root (exports n x e)));
     start = started v.filled.start refl;
-    declared = each_all (λ n. Kept v pushed (item spaces.Function n)) p.declared (λ n. IsIn p Functions n) (λ n h. kept.has Functions n tt h) kept.declared;
+    declared = each_all (λ n. Kept v keep pushed (item spaces.Function n)) p.declared (λ n. IsIn p Functions n) (λ n h. kept.has Functions n tt h) kept.declared;
   }
     where
       started : (o : Option ℕ) → v.filled.start ≡ o → StartIn p o
@@ -213,4 +213,4 @@ module _ (v : Numbered) (pushed : List Item) (p : Plan) (a b : Around) (kept : H
       started (Some n) e = kept.has Functions n tt (inl (root (starts n e)))
 
 pub kept_closed : KeptIsClosed
-kept_closed v pushed p a b kept picks bodies = closed v pushed p a b kept picks bodies
+kept_closed v keep pushed p a b kept picks bodies = closed v keep pushed p a b kept picks bodies

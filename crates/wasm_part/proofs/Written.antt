@@ -46,7 +46,7 @@ module _ (r : Renaming) (brings : ℕ → ℕ) where
 
 module _ (emitted : EmittedTypesStand) (lead : ReadBackTypesLead) (closed : KeptIsClosed) (serve : PickedTypesServe) (ruled : PartsAreRuled) where
   kept_ruled : KeptPartsAreRuled
-  kept_ruled features before counted v pushed t p w first bodies h =
+  kept_ruled features before counted v keep pushed t p w first bodies h =
       let m = v.filled in
       let written = emitted t p.groups w.indices w.emitted in
       let stands : (n : ℕ) → IsIn p Types n → TypeStands p m n = λ n is.
@@ -66,7 +66,7 @@ module _ (emitted : EmittedTypesStand) (lead : ReadBackTypesLead) (closed : Kept
         exports = w.exports;
       } in
       let picks = serve features before counted p m stands (lead (part p m) (length (kinds_of p.groups)) w.once) in
-      ruled features before counted p m plan (closed v pushed p (around_bodies features before m) (around_bodies features counted (part p m)) w.kept picks bodies) h
+      ruled features before counted p m plan (closed v keep pushed p (around_bodies features before m) (around_bodies features counted (part p m)) w.kept picks bodies) h
 
 pub kept_parts_ruled : EmittedTypesStand → ReadBackTypesLead → KeptIsClosed → PickedTypesServe → PartsAreRuled → KeptPartsAreRuled
 kept_parts_ruled emitted lead closed serve ruled = kept_ruled emitted lead closed serve ruled

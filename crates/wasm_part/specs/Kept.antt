@@ -38,15 +38,15 @@ pub record ListsItems (p : Plan) (m : Module) : Type 0 where
   pub elements : AreFilled (p.listed ElementSegments) m.elements
   pub segments : AreFilled (p.listed DataSegments) m.segments
 
--- the part has just what is kept, an import exactly if its item is, and all exports
-pub record HasKept (v : Numbered) (pushed : List Item) (p : Plan) : Type 0 where
-  pub has : (space : Space) (n : ℕ) → IsShared space → Kept v pushed (item (space_of space) n) → IsIn p space n
-  pub only : (space : Space) (i n : ℕ) → IsShared space → slice_get (p.listed space) i ≡ Some n → Kept v pushed (item (space_of space) n)
-  pub imports : (i n : ℕ) → slice_get p.imports i ≡ Some n → (x : Import) → slice_index_or v.filled.imports n None ≡ Some x → Kept v pushed x.item
-  pub import : (n : ℕ) (x : Import) → slice_index_or v.filled.imports n None ≡ Some x → Kept v pushed x.item → Contains p.imports n
+-- the part has just what is kept, with all active element segments or without, an import exactly if its item is, and all exports
+pub record HasKept (v : Numbered) (keep : Bool) (pushed : List Item) (p : Plan) : Type 0 where
+  pub has : (space : Space) (n : ℕ) → IsShared space → Kept v keep pushed (item (space_of space) n) → IsIn p space n
+  pub only : (space : Space) (i n : ℕ) → IsShared space → slice_get (p.listed space) i ≡ Some n → Kept v keep pushed (item (space_of space) n)
+  pub imports : (i n : ℕ) → slice_get p.imports i ≡ Some n → (x : Import) → slice_index_or v.filled.imports n None ≡ Some x → Kept v keep pushed x.item
+  pub import : (n : ℕ) (x : Import) → slice_index_or v.filled.imports n None ≡ Some x → Kept v keep pushed x.item → Contains p.imports n
   pub exports : (n : ℕ) (x : Export) → slice_index_or v.filled.exports n None ≡ Some x → Contains p.exports n
   pub there : ListsItems p v.filled
-  pub declared : AllByRecursion (AllByRecursion (λ n. Kept v pushed (item spaces.Function n))) p.declared
+  pub declared : AllByRecursion (AllByRecursion (λ n. Kept v keep pushed (item spaces.Function n))) p.declared
 
 -- each block type of a body is its own pick
 abbrev pub BodyPicked : Around → Origin Body → Type 0
@@ -68,7 +68,7 @@ abbrev pub PicksServe : Plan → Around → Around → Type 0
 PicksServe p a b = (n : ℕ) → IsIn p Types n → block_pick a (blocks.Type n) ≡ blocks.Type n → BlockServes p a b (Block (blocks.Type n))
 
 abbrev pub KeptIsClosed : Type 0
-KeptIsClosed = (v : Numbered) (pushed : List Item) (p : Plan) (a b : Around) → HasKept v pushed p → PicksServe p a b
+KeptIsClosed = (v : Numbered) (keep : Bool) (pushed : List Item) (p : Plan) (a b : Around) → HasKept v keep pushed p → PicksServe p a b
     → ((i n : ℕ) → slice_get (p.listed Functions) i ≡ Some n → (f : Function) → slice_index_or v.filled.functions n None ≡ Some f → BodyPicked a f.origin × LocalsNamed v n f f.origin × BodyCounts b.counted f.origin)
     → IsClosed p a b v.filled
 

@@ -33,9 +33,9 @@ GroupsStand t v =
     map (λ (g : Group). (g.explicit, written_in t g)) (written_groups t)
     ≡ with_types (map (λ (g : TypeGroup × List ℕ). (g.0.marked, filter (is_written t) g.1)) (numbered v.filled.groups v.types))
 
-pub record WritesKept (v : Numbered) (pushed : List Item) (t : Table) (p : Plan) : Type 0 where
+pub record WritesKept (v : Numbered) (keep : Bool) (pushed : List Item) (t : Table) (p : Plan) : Type 0 where
   -- just what is kept
-  pub kept : HasKept v pushed p
+  pub kept : HasKept v keep pushed p
   -- types as the table writes them, each of which the module has, in its groups; those that are read back are one by one the same
   pub indices : List (Option ℕ)
   pub emitted : IsEmission t p.groups indices
@@ -56,6 +56,6 @@ abbrev pub GlobalsFirst : Module → Type 0
 GlobalsFirst m = (n : ℕ) → n < length (filter is_imported m.globals) → is_imported (slice_index_or m.globals n None) ≡ true
 
 abbrev pub KeptPartsAreRuled : Type 0
-KeptPartsAreRuled = (features : WasmFeatures) (before counted : Bool) (v : Numbered) (pushed : List Item) (t : Table) (p : Plan) → WritesKept v pushed t p → GlobalsFirst v.filled
+KeptPartsAreRuled = (features : WasmFeatures) (before counted : Bool) (v : Numbered) (keep : Bool) (pushed : List Item) (t : Table) (p : Plan) → WritesKept v keep pushed t p → GlobalsFirst v.filled
     → ((i n : ℕ) → slice_get (p.listed Functions) i ≡ Some n → (f : Function) → slice_index_or v.filled.functions n None ≡ Some f → BodyPicked (around_bodies features before v.filled) f.origin × LocalsNamed v n f f.origin × BodyCounts counted f.origin)
     → MeetsRules features before v.filled → MeetsRules features counted (part p v.filled)

@@ -1,5 +1,5 @@
 -- What is said of a rewriting: which inputs are accepted, and why others are refused.
-use Rattle.std.specs.Prelude.{ℕ, ◌≡◌, ◌⊎◌, List, Option}
+use Rattle.std.specs.Prelude.{ℕ, ◌≡◌, ◌⊎◌, true, false, List, Option}
 use Rattle.std.specs.Option.{is_some}
 use Rattle.walrus_config.specs.Config.{default_config}
 use Rattle.walrus_config.specs.declared.config.ModuleConfig.{ModuleConfig}
@@ -12,6 +12,17 @@ use Rattle.wasm_rewriter.specs.declared.fault.Fault.TheVariants as faults
 use Rattle.wasm_rewriter.specs.declared.options.Options.{Options}
 use Rattle.wasm_rewriter.specs.Faults.{fault_of}
 
+-- the options of a call that asks for nothing
+abbrev pub default_options : Options
+default_options = record {
+  only_stable_features = false;
+  legacy_exceptions = true;
+  names = true;
+  producers = true;
+  places = false;
+  keep_segments = false;
+}
+
 -- the flags of a module that is rewritten so
 abbrev pub config_of : Options → ModuleConfig
 config_of o = record default_config {
@@ -20,6 +31,7 @@ config_of o = record default_config {
   generate_name_section = o.names;
   generate_producers_section = o.producers;
   preserve_code_transform = o.places;
+  keep_segments = o.keep_segments;
 }
 
 -- the input reads as a module

@@ -1,6 +1,7 @@
 //! What a caller of the rewriter may choose.
 
-ghost use Rattle.std.specs.Prelude.{◌≡◌, true, false};
+ghost use Rattle.std.specs.Prelude.{◌≡◌};
+ghost use Rattle.wasm_rewriter.specs.Rewrites.{default_options};
 
 /// What a caller of the rewriter may choose.
 #[derive(Clone, Copy, Debug, PartialEq, Eq)]
@@ -15,17 +16,15 @@ pub struct Options {
     pub producers: bool,
     /// Give the list that pairs written operators with those that they stand for.
     pub places: bool,
+    /// Keep all active element segments, each with its table.
+    pub keep_segments: bool,
 }
 
 impl Options {
     /// The options of a call that asks for nothing: wide arithmetic and the legacy exceptions are accepted, names and producers are
-    /// written, and no list of places is given.
+    /// written, no list of places is given, and of active element segments those alone are kept that fill an imported or kept table.
     pub fn new() -> Options
-        ensures stable { result.only_stable_features ≡ false }
-        ensures legacy { result.legacy_exceptions ≡ true }
-        ensures names { result.names ≡ true }
-        ensures producers { result.producers ≡ true }
-        ensures places { result.places ≡ false }
+        ensures { result ≡ default_options }
     {
         Options {
             only_stable_features: false,
@@ -33,6 +32,7 @@ impl Options {
             names: true,
             producers: true,
             places: false,
+            keep_segments: false,
         }
     }
 }

@@ -187,5 +187,5 @@ module _ (p : Plan) where
         (run_sent (λ v. yes) (λ f o. refl) (λ f o k names. refl) f k outcomes fits bound events ending run)).0
 
 pub calls_kept : WrittenStandsNormal → TreeIsOne → NormalNests → CallsAreKept
-calls_kept stands one nests place features more file n t p s asked =
-    events_kept p one nests (maps_of features file p) (pick_in features file) (program_of file) (program_of n) (stands place features more file n t p s asked)
+calls_kept stands one nests place keep features more file n t p s asked =
+    events_kept p one nests (maps_of features file p) (pick_in features file) (program_of file) (program_of n) (stands place keep features more file n t p s asked)

@@ -83,7 +83,7 @@ zero_low [] = tt
 zero_low (n ∷ ns) = (omega arith, zero_low ns)
 
 pub exports_stay : ReadModulesAreFull → ExportsStay
-exports_stay full place features bytes file n t p reads stands =
+exports_stay full place keep features bytes file n t p reads stands =
     let kept = stands.writes.kept in
     let there = full features bytes file reads in
     let all = all_picked (λ (o : Option Export). option_map (renumbered_export p.renames) o) file.exports file.exports [] p.exports refl (rises p.exports stands.writes.exports) (zero_low p.exports)

@@ -1,12 +1,14 @@
 mod Calls
 mod Dense
 mod Exports
+mod Goes
 mod Listed
 mod LocalsNamed
 mod Named
 mod Opened
 mod Orderly
 mod Picks
+mod Reached
 mod Rewritten
 mod Ruled
 mod Run

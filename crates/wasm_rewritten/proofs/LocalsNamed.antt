@@ -50,17 +50,17 @@ among [] y (k, lt, e) = absurd (omega (arith, lt))
 among (x ∷ xs) y (zero, lt, e) = inl e
 among (x ∷ xs) y (suc k, lt, e) = inr (among xs y (k, omega (arith, lt), e))
 
-contained : {A : Type 0} (xs : List A) (y : A) → Among y xs → Contains xs y
+pub contained : {A : Type 0} (xs : List A) (y : A) → Among y xs → Contains xs y
 contained [] y h = absurd h
 contained (x ∷ xs) y (inl e) = (zero, omega arith, e)
 contained (x ∷ xs) y (inr h) = let c = contained xs y h in let lt = c.1 in (suc c.0, omega (arith, lt), c.2)
 
-among_left : {A : Type 0} (xs ys : List A) (y : A) → Among y xs → Among y (xs ++ ys)
+pub among_left : {A : Type 0} (xs ys : List A) (y : A) → Among y xs → Among y (xs ++ ys)
 among_left [] ys y h = absurd h
 among_left (x ∷ xs) ys y (inl e) = inl e
 among_left (x ∷ xs) ys y (inr h) = inr (among_left xs ys y h)
 
-among_right : {A : Type 0} (xs ys : List A) (y : A) → Among y ys → Among y (xs ++ ys)
+pub among_right : {A : Type 0} (xs ys : List A) (y : A) → Among y ys → Among y (xs ++ ys)
 among_right [] ys y h = h
 among_right (x ∷ xs) ys y h = inr (among_right xs ys y h)
 

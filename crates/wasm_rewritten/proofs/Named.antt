@@ -1,5 +1,5 @@
 -- Lemmas: what the normal form of a kept function names is kept.
-use Rattle.std.specs.Prelude.{ℕ, zero, suc, ◌≡◌, List, [], ◌∷◌, map, Contains, Option, Some, None, slice_index_or, refl}
+use Rattle.std.specs.Prelude.{ℕ, zero, suc, ◌≡◌, Bool, List, [], ◌∷◌, map, Contains, Option, Some, None, slice_index_or, refl}
 use Rattle.std.specs.List.{AllByRecursion, flat_map}
 use Rattle.std.proofs.Common.{ap, sym, ◌∙◌, subst, arith, inl, inr}
 use Rattle.walrus_forms.specs.declared.value.ValType.{ValType}
@@ -32,8 +32,8 @@ all_of : {A : Type 0} (P : A → Type 0) (xs : List A) → ((y : A) → Contains
 all_of P [] h = tt
 all_of P (x ∷ xs) h = (h x (zero, omega arith, refl), all_of P xs (λ y c. h y (contains_later x xs y c)))
 
-module _ (v : Numbered) (pushed : List Item) (p : Plan) (kept : HasKept v pushed p) where
-  item_in : (space : FileSpace) (n : ℕ) → Kept v pushed (item space n) → ItemIn p space n
+module _ (v : Numbered) (keep : Bool) (pushed : List Item) (p : Plan) (kept : HasKept v keep pushed p) where
+  item_in : (space : FileSpace) (n : ℕ) → Kept v keep pushed (item space n) → ItemIn p space n
   item_in spaces.«Type» n h = kept.has Types n tt h
   item_in spaces.Function n h = kept.has Functions n tt h
   item_in spaces.Table n h = kept.has Tables n tt h
@@ -51,7 +51,7 @@ module _ (v : Numbered) (pushed : List Item) (p : Plan) (kept : HasKept v pushed
   abbrev AllIn : List Item → Type 0
   AllIn = AllByRecursion AnItemIn
 
-  reached : (space : FileSpace) (n : ℕ) → (space ≡ spaces.Memory → ⊥) → Kept v pushed (item space n) → IsReached v pushed (item space n)
+  reached : (space : FileSpace) (n : ℕ) → (space ≡ spaces.Memory → ⊥) → Kept v keep pushed (item space n) → IsReached v keep pushed (item space n)
   reached space n other (inl h) = h
   reached space n other (inr h) = absurd (other (ap (λ (i : Item). i.space) h.is))
 

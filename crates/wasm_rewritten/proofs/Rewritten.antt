@@ -16,6 +16,6 @@ files_asked rules behind new features bytes file more reads has =
     (ruled, subst (λ (gs : List TypeGroup). StandBehind (around_bodies features true file) gs) (sym has.2) own)
 
 pub rewritten_correspond : ReadFilesAreAsked → HandlersAreMissing → CorrespondingRuns → RewrittenRunsCorrespond
-rewritten_correspond asked missing runs place names producers features input bytes places w =
+rewritten_correspond asked missing runs place names producers keep features input bytes places w =
     let more = handler_groups w.file in
-    runs place features more w.file w.n w.t w.p w.stands (asked features input w.file more w.reads (lacking w.file, missing features input w.file w.reads, refl))
+    runs place keep features more w.file w.n w.t w.p w.stands (asked features input w.file more w.reads (lacking w.file, missing features input w.file w.reads, refl))

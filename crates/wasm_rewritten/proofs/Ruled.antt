@@ -21,12 +21,12 @@ files_picked open_so missing ruled place features bytes file reads =
     (both.0, functions_picked place (around_bodies features true file) (around_bodies features true m) (at (ids_of file.groups)) file.functions (read_shows open_so features bytes file reads) both.1)
 
 pub parts_ruled : ReadFilesArePicked → FilesNameTheirLocals → ReadFilesAreOrderly → HandlersAreMissing → ReadModulesMeetRules → NewKindsStandBehind → MissingKindsAreNew → KeptPartsAreRuled → WrittenPartsAreRuled
-parts_ruled picked named orderly missing rules behind new kept place features counted bytes file t p reads writes counts =
+parts_ruled picked named orderly missing rules behind new kept place keep features counted bytes file t p reads writes counts =
     let more = handler_groups file in
     let m = merged_module place features true more file in
     let own = rules features bytes file reads in
     let stands = behind features true file (once (lacking file)) own.groups (new file.groups (lacking file) own.groups (missing features bytes file reads)) in
     let all = picked place features bytes file reads in
     let first = orderly place features bytes more file reads in
-    kept features true counted _ _ t p writes first.1
+    kept features true counted _ _ _ t p writes first.1
     (λ i n at f slot. (each_at (λ (f : Function). BodyPicked (around_bodies features true m) f.origin) m.functions n f all.1 slot, named place features more file own stands n f slot, counts i n at f slot)) all.0

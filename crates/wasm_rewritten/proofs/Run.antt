@@ -14,14 +14,14 @@ use Rattle.wasm_run_laws.proofs.Modules.{normal_runs_correspond}
 use Rattle.wasm_rewritten.specs.Runs.{CorrespondingRuns, EntriesAreKept, WrittenRunsTheSame, WrittenStandsNormal, maps_of, pick_in}
 
 pub runs_same : WrittenStandsNormal → TreeIsOne → NormalNests → WrittenRunsTheSame
-runs_same stands one nests place features more file n t p s asked =
-    normal_runs_correspond one nests (IsIn p Functions) (maps_of features file p) (pick_in features file) (program_of file) (program_of n) (stands place features more file n t p s asked)
+runs_same stands one nests place keep features more file n t p s asked =
+    normal_runs_correspond one nests (IsIn p Functions) (maps_of features file p) (pick_in features file) (program_of file) (program_of n) (stands place keep features more file n t p s asked)
 
 pub runs_correspond : WrittenRunsTheSame → EntriesAreKept → EachRunEnds → OneTrace → CorrespondingRuns
-runs_correspond runs entries ends one place features more file n t p s asked f entry outcomes fits bound others ending =
+runs_correspond runs entries ends one place keep features more file n t p s asked f entry outcomes fits bound others ending =
     let r = maps_of features file p in
-    let kept = entries place features more file n t p s f entry in
-    let same = runs place features more file n t p s asked f kept outcomes fits bound in
+    let kept = entries place keep features more file n t p s f entry in
+    let same = runs place keep features more file n t p s asked f kept outcomes fits bound in
     let T : List Event → Ending → Type 0 = λ vs e. Trace (program_of n) (p.renames Functions f) (map (renamed_outcome (p.renames Functions)) outcomes) bound vs e in (
       λ run.
           let here = ends (program_of file) f outcomes bound in

@@ -1,5 +1,5 @@
 -- Lemmas: what is written holds the kept functions of the file, in normal form and renamed.
-use Rattle.std.specs.Prelude.{ℕ, ◌≡◌, ◌↔◌, IsTrue, true, List, [], ◌∷◌, map, Option, Some, None, slice_get, slice_index_or, refl}
+use Rattle.std.specs.Prelude.{ℕ, ◌≡◌, ◌↔◌, Bool, IsTrue, true, List, [], ◌∷◌, map, Option, Some, None, slice_get, slice_index_or, refl}
 use Rattle.std.specs.List.{AllByRecursion}
 use Rattle.std.specs.Option.{option_map}
 use Rattle.std.proofs.Common.{ap, sym, ◌∙◌, subst, inl, inr}
@@ -92,8 +92,8 @@ module _ (place : Option ℕ → ℕ) (features : WasmFeatures) (file : Module) 
   AllCome = AllByRecursion (λ (o : Seen). AllByRecursion (ComesIn p (by_types ids)) (operator_names o))
 
   -- what the normal form of a function's body names is in the part
-  module _ (v : Numbered) (pushed : List Item) (kept : HasKept v pushed p) where
-    origin_comes : (params : ℕ) (x : Origin Body) → OriginIn v pushed p kept (normal_origin place a ids params x) → (ops : List Seen) → own_body x ≡ Some ops → AllCome (normal_code pick ops)
+  module _ (v : Numbered) (keep : Bool) (pushed : List Item) (kept : HasKept v keep pushed p) where
+    origin_comes : (params : ℕ) (x : Origin Body) → OriginIn v keep pushed p kept (normal_origin place a ids params x) → (ops : List Seen) → own_body x ≡ Some ops → AllCome (normal_code pick ops)
     origin_comes params (Imported i) h ops e = absurd cc
     origin_comes params (Own x) h ops e =
         let text = normal_ops (block_pick a) (text_of x.operators) in
@@ -101,7 +101,7 @@ module _ (place : Option ℕ → ℕ) (features : WasmFeatures) (file : Module) 
         let all = ops_without p number (by_types ids) (operators text) (ops_before p (with_numbers number (by_types ids)) place text h) in
         subst AllCome (sym (ap (normal_code pick) (sym (some_same (map (λ (o : Placed). o.op) x.operators) ops e)) ∙ normal_text pick x.operators)) all
 
-    slot_comes : (o : Option Function) → SlotIn v pushed p kept (option_map (normal_function place a ids) o) → (ops : List Seen) → body_of o ≡ Some ops → AllCome (normal_code pick ops)
+    slot_comes : (o : Option Function) → SlotIn v keep pushed p kept (option_map (normal_function place a ids) o) → (ops : List Seen) → body_of o ≡ Some ops → AllCome (normal_code pick ops)
     slot_comes None h ops e = absurd cc
     slot_comes (Some f) h ops e = origin_comes (param_count a.filled f.ty) f.origin h ops e
 
@@ -120,7 +120,7 @@ module _ (place : Option ℕ → ℕ) (features : WasmFeatures) (file : Module) 
 
 module _ (through : PicksKeepThrough) (decide : NamesDecide) (normal : NormalOperatorsAreRuled) (stand : BlockTypesStand) (merged : TypesAreMerged) (emitted : EmittedTypesStand) where
   pub stands_normal : WrittenStandsNormal
-  stands_normal place features more file n t p s asked =
+  stands_normal place keep features more file n t p s asked =
       let a = around_bodies features true file in
       let ids = at (ids_of file.groups) in
       let pick = pick_in features file in
@@ -128,8 +128,8 @@ module _ (through : PicksKeepThrough) (decide : NamesDecide) (normal : NormalOpe
       let w = s.writes in
       let types = (merged place features true more file asked.0.groups asked.1).0.retypes in
       let come : (f : ℕ) (ops : List Seen) → IsIn p Functions f → (program_of file).body f ≡ Some ops → AllByRecursion (λ (o : Seen). AllByRecursion (ComesIn p (by_types ids)) (operator_names o)) (normal_code pick ops)
-      = λ f ops is e. slot_comes place features file p v [] w.kept (slice_index_or file.functions f None)
-      (subst (SlotIn v [] p w.kept) (slot_sent (normal_function place a ids) file.functions f) (names_in v [] p w.kept f is)) ops e in
+      = λ f ops is e. slot_comes place features file p v keep [] w.kept (slice_index_or file.functions f None)
+      (subst (SlotIn v keep [] p w.kept) (slot_sent (normal_function place a ids) file.functions f) (names_in v keep [] p w.kept f is)) ops e in
       record {
         there = λ f is. there decide place features more file p w.labels w.locals n s.whole f is;
         names = λ f ops is e. names_kept p (by_types ids) (λ n. refl) (normal_code pick ops) (come f ops is e);
@@ -148,11 +148,11 @@ module _ (through : PicksKeepThrough) (decide : NamesDecide) (normal : NormalOpe
 -- ---- entries
 
 pub entries_kept : EntriesAreKept
-entries_kept place features more file n t p s f (inl (e, x, is, space, number)) =
+entries_kept place keep features more file n t p s f (inl (e, x, is, space, number)) =
     let v = file_seen place features more file in
-    let h = export_in v [] p s.writes.kept file refl e x is in
+    let h = export_in v keep [] p s.writes.kept file refl e x is in
     subst (λ (k : ℕ). ItemIn p spaces.Function k) number (subst (λ (z : FileSpace). ItemIn p z x.item.number) space h)
-entries_kept place features more file n t p s f (inr e) =
+entries_kept place keep features more file n t p s f (inr e) =
     let v = file_seen place features more file in s.writes.kept.has Functions f tt (inl (root (starts f e)))
 
 pub number_is : (o : Option ℕ) (n : ℕ) → IsTrue (is_number o n) ↔ (o ≡ Some n)

@@ -1,5 +1,5 @@
 -- Exports keep their names, their kinds and their order; imports that are kept theirs.
-use Rattle.std.specs.Prelude.{ℕ, ◌≡◌, List, Option, map}
+use Rattle.std.specs.Prelude.{ℕ, ◌≡◌, Bool, List, Option, map}
 use Rattle.std.specs.Option.{option_map}
 use Rattle.walrus_types.specs.Table.{Table}
 use Rattle.wasm_features.specs.declared.WasmFeatures.{WasmFeatures}
@@ -11,5 +11,5 @@ use Rattle.wasm_part.specs.Stands.{Stands}
 
 -- all exports of the file, each with the new number of its item; of its imports some, in their order, with the new numbers of theirs
 abbrev pub ExportsStay : Type 0
-ExportsStay = (place : Option ℕ → ℕ) (features : WasmFeatures) (bytes : List ℕ) (file n : Module) (t : Table) (p : Plan) → Reads features bytes file → Stands place features file n t p
+ExportsStay = (place : Option ℕ → ℕ) (keep : Bool) (features : WasmFeatures) (bytes : List ℕ) (file n : Module) (t : Table) (p : Plan) → Reads features bytes file → Stands place keep features file n t p
     → (n.exports ≡ map (option_map (renumbered_export p.renames)) file.exports) × (n.imports ≡ picked (renumbered_import p.renames) p.imports file.imports) × Rise p.imports

@@ -29,7 +29,7 @@ ReadFilesArePicked = (place : Option ℕ → ℕ) (features : WasmFeatures) (byt
 
 -- so the part of it that has just what is kept meets the rules, renumbered, with a data count section where one of its bodies asks for one
 abbrev pub WrittenPartsAreRuled : Type 0
-WrittenPartsAreRuled = (place : Option ℕ → ℕ) (features : WasmFeatures) (counted : Bool) (bytes : List ℕ) (file : Module) (t : Table) (p : Plan) → Reads features bytes file
-    → WritesKept (file_seen place features (handler_groups file) file) [] t p
+WrittenPartsAreRuled = (place : Option ℕ → ℕ) (keep : Bool) (features : WasmFeatures) (counted : Bool) (bytes : List ℕ) (file : Module) (t : Table) (p : Plan) → Reads features bytes file
+    → WritesKept (file_seen place features (handler_groups file) file) keep [] t p
     → (let m = merged_module place features true (handler_groups file) file in
     ((i n : ℕ) → slice_get (p.listed Functions) i ≡ Some n → (f : Function) → slice_index_or m.functions n None ≡ Some f → BodyCounts counted f.origin) → MeetsRules features counted (part p m))

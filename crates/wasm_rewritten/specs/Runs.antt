@@ -80,12 +80,12 @@ Asked features more file = MeetsRules features true file × StandBehind (around_
 
 -- each kept function of the file stands in what is written, in normal form and renamed; what its normal form names is kept
 abbrev pub WrittenStandsNormal : Type 0
-WrittenStandsNormal = (place : Option ℕ → ℕ) (features : WasmFeatures) (more : List TypeGroup) (file n : Module) (t : Table) (p : Plan) → StandsWith place features more file n t p → Asked features more file
+WrittenStandsNormal = (place : Option ℕ → ℕ) (keep : Bool) (features : WasmFeatures) (more : List TypeGroup) (file n : Module) (t : Table) (p : Plan) → StandsWith place keep features more file n t p → Asked features more file
     → StandsNormal (IsIn p Functions) (maps_of features file p) (pick_in features file) (program_of file) (program_of n)
 
 -- so each of its runs, with outcomes that enter kept functions, is a run there
 abbrev pub WrittenRunsTheSame : Type 0
-WrittenRunsTheSame = (place : Option ℕ → ℕ) (features : WasmFeatures) (more : List TypeGroup) (file n : Module) (t : Table) (p : Plan) → StandsWith place features more file n t p → Asked features more file
+WrittenRunsTheSame = (place : Option ℕ → ℕ) (keep : Bool) (features : WasmFeatures) (more : List TypeGroup) (file n : Module) (t : Table) (p : Plan) → StandsWith place keep features more file n t p → Asked features more file
     → SameRuns (IsIn p Functions) (maps_of features file p) (program_of file) (program_of n)
 
 -- an exported function, or the start function
@@ -93,7 +93,7 @@ abbrev pub IsEntry : Module → ℕ → Type 0
 IsEntry m f = ((e : ℕ) × (x : Export) × (slice_index_or m.exports e None ≡ Some x) × (x.item.space ≡ spaces.Function) × (x.item.number ≡ f)) ⊎ (m.start ≡ Some f)
 
 abbrev pub EntriesAreKept : Type 0
-EntriesAreKept = (place : Option ℕ → ℕ) (features : WasmFeatures) (more : List TypeGroup) (file n : Module) (t : Table) (p : Plan) → StandsWith place features more file n t p → (f : ℕ) → IsEntry file f → IsIn p Functions f
+EntriesAreKept = (place : Option ℕ → ℕ) (keep : Bool) (features : WasmFeatures) (more : List TypeGroup) (file n : Module) (t : Table) (p : Plan) → StandsWith place keep features more file n t p → (f : ℕ) → IsEntry file f → IsIn p Functions f
 
 -- for each exported or start function, each bound and each fitting list of outcomes: the trace there, with the outcomes renamed, is the trace here, renamed;
 -- both ways, as each run has just one
@@ -103,7 +103,7 @@ SameTraces features file n p = (f : ℕ) → IsEntry file f → (outcomes : List
     ↔ ((events : List Event) × Trace (program_of file) f outcomes bound events ending × (others ≡ map (renamed_event (maps_of features file p)) events))
 
 abbrev pub CorrespondingRuns : Type 0
-CorrespondingRuns = (place : Option ℕ → ℕ) (features : WasmFeatures) (more : List TypeGroup) (file n : Module) (t : Table) (p : Plan) → StandsWith place features more file n t p → Asked features more file
+CorrespondingRuns = (place : Option ℕ → ℕ) (keep : Bool) (features : WasmFeatures) (more : List TypeGroup) (file n : Module) (t : Table) (p : Plan) → StandsWith place keep features more file n t p → Asked features more file
     → SameTraces features file n p
 
 -- so it is with each file that is read, where the handlers' types are single ones of kinds that it hasn't
@@ -114,8 +114,8 @@ abbrev pub ReadFilesAreAsked : Type 0
 ReadFilesAreAsked = (features : WasmFeatures) (bytes : List ℕ) (file : Module) (more : List TypeGroup) → Reads features bytes file → HasHandlers file more → Asked features more file
 
 abbrev pub RewrittenRunsCorrespond : Type 0
-RewrittenRunsCorrespond = (place : Option ℕ → ℕ) (names producers : Bool) (features : WasmFeatures) (input bytes : List ℕ) (places : Option (List (ℕ × ℕ)))
-    (w : Rewritten place names producers features input bytes places) → SameTraces features w.file w.n w.p
+RewrittenRunsCorrespond = (place : Option ℕ → ℕ) (names producers keep : Bool) (features : WasmFeatures) (input bytes : List ℕ) (places : Option (List (ℕ × ℕ)))
+    (w : Rewritten place names producers keep features input bytes places) → SameTraces features w.file w.n w.p
 
 -- ---- calls
 
@@ -133,6 +133,6 @@ IsOfKept p v = IsIn p Functions v.function × AllByRecursion (IsIn p Functions) 
 
 -- each operator that a run of a kept function executes does: so does each direct call, that of a tail, too
 abbrev pub CallsAreKept : Type 0
-CallsAreKept = (place : Option ℕ → ℕ) (features : WasmFeatures) (more : List TypeGroup) (file n : Module) (t : Table) (p : Plan) → StandsWith place features more file n t p → Asked features more file
+CallsAreKept = (place : Option ℕ → ℕ) (keep : Bool) (features : WasmFeatures) (more : List TypeGroup) (file n : Module) (t : Table) (p : Plan) → StandsWith place keep features more file n t p → Asked features more file
     → (f : ℕ) → IsIn p Functions f → (outcomes : List Outcome) → Fits (IsIn p Functions) outcomes → (bound : ℕ) (events : List Event) (ending : Ending)
     → Trace (program_of file) f outcomes bound events ending → AllByRecursion (IsOfKept p) events

@@ -3,6 +3,7 @@
 ghost use Rattle.wasm_rewritten.specs.Dense.{PartsAreDense};
 ghost use Rattle.wasm_rewritten.specs.Exports.{ExportsStay};
 ghost use Rattle.wasm_rewritten.specs.Orderly.{ReadFilesAreOrderly};
+ghost use Rattle.wasm_rewritten.specs.Rewritten.{WrittenIsReached};
 ghost use Rattle.wasm_rewritten.specs.Ruled.{FilesNameTheirLocals, ReadFilesArePicked, WrittenPartsAreRuled};
 ghost use Rattle.wasm_rewritten.specs.Runs.{CallsAreKept, CorrespondingRuns, EntriesAreKept, KeptIsDecided, PicksKeepThrough, ReadFilesAreAsked, RewrittenRunsCorrespond, WrittenRunsTheSame, WrittenStandsNormal};
 
@@ -13,6 +14,7 @@ use wasm_normal_form::laws::{normal_forms_are_normal, trees_are_one};
 use wasm_normal_modules::laws::{
     normal_forms_of_read_modules_are_ruled, numbered_operators_are_normal,
 };
+use wasm_operators::laws::names_are_renamed;
 use wasm_part::laws::{
     blocks_open, emitted_types_stand, handlers_are_missing, kept_parts_are_ruled,
 };
@@ -125,4 +127,12 @@ pub fn exports_stay()
     ensures { ExportsStay }
 {
     read_modules_are_full();
+}
+
+/// Each item of what is written of a file is reached there from a root by a chain of references, but for types and memories: of it no proper part holds the
+/// roots and is closed.
+pub fn written_is_reached()
+    ensures { WrittenIsReached }
+{
+    names_are_renamed();
 }

@@ -26,6 +26,7 @@ const PLAIN: Options = Options {
     names: true,
     producers: true,
     places: false,
+    keep_segments: false,
 };
 
 #[test]
@@ -64,6 +65,13 @@ fn each_flag_chooses_an_option(rt: HostRuntime) {
             "--places=FILE",
             Options {
                 places: true,
+                ..PLAIN
+            },
+        ),
+        (
+            "--keep-segments",
+            Options {
+                keep_segments: true,
                 ..PLAIN
             },
         ),

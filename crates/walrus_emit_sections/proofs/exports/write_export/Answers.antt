@@ -2,7 +2,7 @@ use Rattle.std.proofs.Common.{ℕ, List, length, subst}
 use Rattle.wasm_formats.specs.declared.fault.Limited.TheVariants.{String}
 use Rattle.walrus_index_maps.specs.Views.{indices}
 use Rattle.walrus_pairing.specs.Looks.{number_of}
-use Rattle.walrus_meaning.specs.Meaning.{own_export}
+use Rattle.walrus_item_meaning.specs.Meaning.{own_export}
 use Rattle.walrus_emit_parts.specs.Due.{Refused, limited, text}
 use Rattle.walrus_emit_parts.proofs.Lemmas.{refused_front}
 use Rattle.walrus_emit_sections.specs.Items.{kind_index}

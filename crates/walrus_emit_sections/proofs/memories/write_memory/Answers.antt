@@ -1,5 +1,5 @@
 use Rattle.std.proofs.Common.{ℕ, ◌≡◌, ◌++◌, subst}
-use Rattle.walrus_meaning.specs.Meaning.{own_memory}
+use Rattle.walrus_item_meaning.specs.Meaning.{own_memory}
 use Rattle.walrus_emit_parts.specs.Due.{Refused, written}
 use Rattle.walrus_emit_parts.proofs.Lemmas.{refused_front, writes_on}
 use Rattle.walrus_emit_values.specs.Values.{limits, optional}

@@ -1,8 +1,8 @@
 use Rattle.std.proofs.Common.{[], ◌∷◌, ◌++◌}
 use Rattle.walrus_index_maps.specs.Views.{indices}
 use Rattle.walrus_pairing.specs.Looks.{number_of}
-use Rattle.walrus_meaning.specs.Meaning.{own_table}
-use Rattle.walrus_meaning.specs.Words.{own_expr}
+use Rattle.walrus_item_meaning.specs.Meaning.{own_table}
+use Rattle.walrus_module_items.specs.Words.{own_expr}
 use Rattle.walrus_emit_parts.specs.Due.{written}
 use Rattle.walrus_emit_parts.proofs.Lemmas.{refused_front, writes_on}
 use Rattle.walrus_emit_values.specs.Values.{expr}

@@ -3,7 +3,7 @@ use Rattle.wasm_operators.specs.Items.{Types}
 use Rattle.wasm_grammar.specs.TypeWords.{ref_from}
 use Rattle.walrus_index_maps.specs.Views.{indices}
 use Rattle.walrus_pairing.specs.Looks.{number_of}
-use Rattle.walrus_meaning.specs.Meaning.{own_table}
+use Rattle.walrus_item_meaning.specs.Meaning.{own_table}
 use Rattle.walrus_emit_parts.specs.Due.{Writes}
 use Rattle.walrus_emit_parts.proofs.Lemmas.{writes_on}
 use Rattle.walrus_emit_values.specs.Values.{limits, reference}

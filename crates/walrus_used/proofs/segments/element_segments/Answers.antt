@@ -23,8 +23,8 @@ loop-index-preserved g c =
                 (subst (λ (k : ℕ). lists_of w.list_segment.new.lists.items ≡ listed_segment (lists_of c.loop-index.active.items) k w.get.result.now.kind) c.from_index-id.ensures w.in_ok-list_segment.ensures)
                 c.loop-index.invariant.0),
             subst (λ (z : Vec Item Global). RootedBelow m (n + 1) z.items) (sym w.rooted-is)
-                (more_rooted m n c.loop-index.rooted.items w.list_rooted.new.rooted.items w.get.result.now at
-                (subst (λ (k : ℕ). w.list_rooted.new.rooted.items ≡ c.loop-index.rooted.items ++ rooted_element m.tables k w.get.result.now.kind) c.from_index-id.ensures w.in_ok-list_rooted.ensures)
+                (more_rooted m n c.loop-index.rooted.items w.list_rooted.new.rooted.items w.get.result.now w.config.result.now.keep_segments (λ i. (w.config.ensures i).keep_segments) at
+                (subst (λ (k : ℕ). w.list_rooted.new.rooted.items ≡ c.loop-index.rooted.items ++ rooted_element w.config.result.now.keep_segments m.tables k w.get.result.now.kind) c.from_index-id.ensures w.in_ok-list_rooted.ensures)
                 c.loop-index.invariant.1),
           )
       | else-contains w ↦

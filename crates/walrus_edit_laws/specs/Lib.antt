@@ -1,3 +1,0 @@
-pub mod Edits
-pub mod Locals
-pub mod Ordinary

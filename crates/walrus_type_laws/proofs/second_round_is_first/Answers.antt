@@ -1,5 +1,0 @@
-use Rattle.walrus_type_laws.proofs.AgainLemmas.{again-law}
-use Rattle.walrus_type_laws.proofs.second_round_is_first.Goals as goal
-
-pub returns : goal.returns
-returns c = again-law
