@@ -24,11 +24,11 @@ declares : (functions : List ℕ) (old new : Module) (r : Bool) → r ≡ (lengt
 declares [] old new r is some same adds = absurd (false≢true (sym some ∙ is ∙ eq-eqb 0 0 refl))
 declares (f ∷ fs) old new r is some same adds = (same, adds)
 
-pub some_declared : (items : Vec ℕ Global) (functions : List ℕ) (old new : Module) (id : ℕ) (r : Bool) → r ≡ (length items.items == 0) → r ≡ false → items.items ≡ functions
+pub some_declared : (items : Vec ℕ Global) (found functions : List ℕ) (old new : Module) (id : ℕ) (r : Bool) → r ≡ (length found == 0) → r ≡ false → found ≡ items.items → items.items ≡ functions
     → new ≡ record old { elements = new.elements } → id ≡ next_id old.elements
     → new.elements.slots ≡ old.elements.slots ++ Some (record { id = id; kind = Declared; items = Functions items; name = None }) ∷ [] → Declares functions old new
-some_declared items functions old new id r is some holds same number added =
-    declares functions old new r (subst (λ (l : List ℕ). r ≡ (length l == 0)) holds is) some same (adds_declared items functions old.elements new.elements id holds number added)
+some_declared items found functions old new id r is some at holds same number added =
+    declares functions old new r (subst (λ (l : List ℕ). r ≡ (length l == 0)) (at ∙ holds) is) some same (adds_declared items functions old.elements new.elements id holds number added)
 
 pub none_declared : (found functions : List ℕ) (old : Module) (r : Bool) → r ≡ (length found == 0) → r ≡ true → found ≡ functions → Declares functions old old
 none_declared [] functions old r is none same = subst (λ (l : List ℕ). Declares l old old) same refl

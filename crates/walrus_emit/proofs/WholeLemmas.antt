@@ -1,12 +1,10 @@
 -- A module is written section by section.
-use Rattle.std.specs.Prelude.{ℕ, ◌≡◌, ◌<◌, ◌^◌, ◌⊎◌, Bool, true, false, List, [], ◌++◌, length, map, Option, Result, Ok, Err, IfOk, OnOk, refl}
-use Rattle.std.specs.List.{AllZip}
+use Rattle.std.specs.Prelude.{ℕ, ◌≡◌, ◌<◌, ◌^◌, ◌⊎◌, Bool, true, false, List, [], ◌++◌, length, map, Option, Result, Ok, Err, OnOk, refl}
 use Rattle.std.specs.List.Sorted.{IsPermutation}
-use Rattle.std.proofs.Common.{ap, sym, ◌∙◌, subst, append_assoc, append-nil, inl, inr}
+use Rattle.std.proofs.Common.{sym, subst, inl, inr}
 use Rattle.wasm_grammar.specs.Modules.{Function}
 use Rattle.wasm_operators.proofs.Keeps.{keeps_all}
 use Rattle.walrus_operators.specs.Appended.{Keeps}
-use Rattle.walrus_arena.specs.Arena.{entries}
 use Rattle.walrus_errors.specs.declared.error.ModuleError.{ModuleError}
 use Rattle.walrus_errors.specs.declared.error.ModuleError.TheVariants.{Memory}
 use Rattle.walrus_index_maps.specs.Maps.{Indices}

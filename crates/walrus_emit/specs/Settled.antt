@@ -1,5 +1,5 @@
 -- What is settled of a module before it is written.
-use Rattle.std.specs.Prelude.{ℕ, ◌≡◌, List, length, map}
+use Rattle.std.specs.Prelude.{ℕ, List, length, map}
 use Rattle.std.specs.List.Sorted.{IsPermutation}
 use Rattle.walrus_index_maps.specs.Runs.{run_from}
 use Rattle.walrus_types.specs.Emission.{IsEmission}

@@ -20,7 +20,7 @@ pub fn declare<B>(alloc: Global, input: &mut Module<B>, facts: &[BodyFacts]) -> 
     ensures customs { input.new.customs ≡ input.old.customs }
 {
     let functions = undeclared(alloc, &*input, facts)?;
-    if functions.is_empty() {
+    if functions.as_slice().is_empty() {
         return Ok(());
     }
     input

@@ -10,8 +10,8 @@ ghost use Rattle.walrus_emit.specs.Whole as due;
 ghost use Rattle.walrus_emit.specs.Written.{IsStandard, IsWritten};
 
 use crate::checks::check_module;
-use crate::context::EmitContext;
 use crate::contents::write_all;
+use crate::context::EmitContext;
 use crate::segment::declare;
 use crate::transform::transform_of;
 use std::alloc::Global;
@@ -30,16 +30,17 @@ const MAX_FILE: usize = 1 << 30;
 
 // All sections but the other custom ones.
 #[tactic(auto, using(crate::proofs::WrittenLemmas::is_standard))]
-fn emit_standard<B: CustomSection>(
+fn emit_standard<'a, B: CustomSection>(
     alloc: Global,
-    input: &Module<B>,
-    facts: &[BodyFacts],
+    input: &'a Module<B>,
+    facts: &'a [BodyFacts],
 ) -> Result<Emission>
     ensures { IfOk result (IsStandard B.own_name B.contents input.now facts.now) }
 {
     let mut cx = EmitContext::new(alloc, input, facts)?;
-    let order = cx.order.as_slice();
-    write_all(alloc, &mut cx.emission, input, &cx.types, facts, order)?;
+    let at = &mut cx;
+    let order = at.order.as_slice();
+    write_all(alloc, &mut at.emission, input, &at.types, facts, order)?;
     Ok(cx.emission)
 }
 

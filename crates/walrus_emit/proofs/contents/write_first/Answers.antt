@@ -8,4 +8,4 @@ pub returns-in-Err : goal.returns-in-Err
 returns-in-Err g c = refused_front (written header) _ _ _ _ c.in-Err.ensures
 
 pub returns : goal.returns
-returns g c = first_written g.B.CustomSection.own_name g.B.CustomSection.contents c.args.sections.now _ _ _ _ _ c.new.ensures c.in-Ok.ensures c.write_sections.ensures
+returns g c = first_written g.B.CustomSection.own_name g.B.CustomSection.contents c.args.sections.now _ _ _ _ _ c.new-none.ensures c.in-Ok.ensures c.write_sections.ensures

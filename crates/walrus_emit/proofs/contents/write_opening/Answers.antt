@@ -1,12 +1,9 @@
-use Rattle.std.specs.Prelude.{◌++◌}
 use Rattle.walrus_index_maps.specs.Views.{indices}
 use Rattle.walrus_meaning.specs.Meaning.{means}
 use Rattle.walrus_module.specs.Parts.{parts}
 use Rattle.walrus_module.specs.walrus_body_writer.walrus_pairing.Looks.{Look, number_of}
 use Rattle.wasm_grammar.specs.Modules.{Module}
-use Rattle.walrus_emit_parts.specs.Due.{Due}
 use Rattle.walrus_emit_parts.proofs.Lemmas.{refused_front, writes_on}
-use Rattle.walrus_emit.proofs.WholeLemmas.{refused_later}
 use Rattle.std.specs.List.{list_any}
 use Rattle.walrus_emit_numbers.specs.Numbers.{functions_at}
 use Rattle.walrus_emit_numbers.specs.declared.facts.BodyFacts.{BodyFacts}
