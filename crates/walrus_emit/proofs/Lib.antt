@@ -1,3 +1,5 @@
 pub mod KeepsLemmas
 pub mod ListLemmas
 pub mod DeclaredLemmas
+pub mod WholeLemmas
+pub mod WrittenLemmas

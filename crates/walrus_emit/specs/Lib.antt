@@ -1,2 +1,5 @@
 pub mod Left
 pub mod Listed
+pub mod Settled
+pub mod Whole
+pub mod Written

@@ -2,7 +2,10 @@
 ghost use Rattle.std.specs.Prelude.{◌≡◌, ◌⊎◌, [], IfErr, IfOk};
 ghost use Rattle.wasm_formats.specs.declared.fault.Space.TheVariants as spaces;
 ghost use Rattle.walrus_errors.specs.declared.error.ModuleError.TheVariants as refusals;
+ghost use Rattle.walrus_index_maps.specs.Views.{indices};
+ghost use Rattle.walrus_emit_numbers.specs.Numbers.{functions_at, numbers_of};
 ghost use Rattle.walrus_emit_numbers.specs.Order.{AreWithin};
+ghost use Rattle.walrus_emit.specs.Settled.{AreEmitted, IsOrder};
 
 use std::alloc::Global;
 use walrus_emit_code::Emission;
@@ -43,8 +46,10 @@ fn refusal_of(error: IrError) -> ModuleError
 /// # Errors
 ///
 /// `DeadReference` of a type, where a type names what isn't written, or a later one past its group; want of memory.
+#[tactic(auto, using(crate::proofs::WholeLemmas::are_emitted))]
 pub(crate) fn emitted_types(types: &ModuleTypes) -> Result<EmittedTypes>
-    ensures { IfErr result (λ e. (e ≡ refusals.Memory) ⊎ (e ≡ refusals.DeadReference spaces.Type)) }
+    ensures emitted { IfOk result (λ emitted. AreEmitted types.now emitted) }
+    ensures refused { IfErr result (λ e. (e ≡ refusals.Memory) ⊎ (e ≡ refusals.DeadReference spaces.Type)) }
 {
     match types.emit() {
         Ok(types) => Ok(types),
@@ -58,8 +63,18 @@ impl<'a, B> EmitContext<'a, B> {
     /// # Errors
     ///
     /// `DeadReference` of a type, where a type names what isn't written, or a later one past its group; want of memory.
+    #[tactic(auto, using(crate::proofs::WholeLemmas::is_order))]
     pub fn new(alloc: Global, input: &'a Module<B>, facts: &'a [BodyFacts]) -> Result<Self>
+        ensures module { IfOk result (λ cx. cx.«module».now ≡ input.now) }
+        ensures facts { IfOk result (λ cx. cx.facts.now ≡ facts.now) }
+        ensures types { IfOk result (λ cx. AreEmitted input.now.types cx.types) }
+        ensures order { IfOk result (λ cx. IsOrder facts.now cx.order.items) }
+        ensures within { IfOk result (λ cx. AreWithin facts.now cx.order.items) }
+        ensures numbers { IfOk result (λ cx. indices cx.emission.indices ≡ numbers_of input.now cx.types.ids.items (functions_at facts.now cx.order.items)) }
         ensures written { IfOk result (λ cx. cx.emission.bytes.items ≡ []) }
+        ensures locations { IfOk result (λ cx. cx.emission.locations.items ≡ []) }
+        ensures ranges { IfOk result (λ cx. cx.emission.ranges.items ≡ []) }
+        ensures start { IfOk result (λ cx. cx.emission.code_section_start ≡ 0) }
         ensures refused { IfErr result (λ e. (e ≡ refusals.Memory) ⊎ (e ≡ refusals.DeadReference spaces.Type)) }
     {
         let types = emitted_types(&input.types)?;

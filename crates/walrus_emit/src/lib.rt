@@ -1,7 +1,18 @@
 //! A module is written (Core Specification, binary format: modules).
 #![tactic(auto)]
 
+// What was written stays, or the caller hands the refusal on.
+macro_rules! put {
+    ($call:expr) => {
+        match $call {
+            Ok(()) => {}
+            Err(error) => return Err(error),
+        }
+    };
+}
+
 mod checks;
+mod contents;
 mod context;
 mod emit;
 mod segment;

@@ -1,7 +1,8 @@
 //! The declared segment of a module.
-ghost use Rattle.std.specs.Prelude.{◌≡◌, OnErr};
+ghost use Rattle.std.specs.Prelude.{◌≡◌, MatchResult};
 ghost use Rattle.walrus_module.specs.Parts.{parts};
-ghost use Rattle.walrus_emit.specs.Left.{LeavesDeclared};
+ghost use Rattle.walrus_emit_numbers.specs.Undeclared.{undeclared_of};
+ghost use Rattle.walrus_emit.specs.Left.{Declares};
 
 use std::alloc::Global;
 use walrus_emit_numbers::{BodyFacts, undeclared};
@@ -15,12 +16,11 @@ use walrus_module::module_items::{ElementItems, ElementKind};
 ///
 /// Want of memory. Nothing is added.
 pub fn declare<B>(alloc: Global, input: &mut Module<B>, facts: &[BodyFacts]) -> Result<()>
-    ensures left { LeavesDeclared (parts input.old) (parts input.new) }
+    ensures added { MatchResult result (λ _. Declares (undeclared_of input.old facts.now) (parts input.old) (parts input.new)) (λ _. input.new ≡ input.old) }
     ensures customs { input.new.customs ≡ input.old.customs }
-    ensures refused { OnErr result (input.new ≡ input.old) }
 {
     let functions = undeclared(alloc, &*input, facts)?;
-    if functions.is_empty() {
+    if functions.as_slice().is_empty() {
         return Ok(());
     }
     input

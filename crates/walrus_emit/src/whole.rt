@@ -1,25 +1,24 @@
 //! A whole module is written.
-ghost use Rattle.std.specs.Prelude.{◌≡◌, ◌≤◌, ◌^◌, ◌⊎◌, false, length, IfErr, IfOk, OnOk};
+ghost use Rattle.std.specs.Prelude.{◌≡◌, ◌≤◌, ◌^◌, ◌⊎◌, ◌++◌, false, length, IfErr, IfOk, OnOk};
+ghost use Rattle.walrus_index_maps.specs.Views.{indices};
 ghost use Rattle.walrus_module.specs.Parts.{parts};
 ghost use Rattle.walrus_refusals.specs.Sound.{IsRefused, IsSound};
+ghost use Rattle.walrus_emit_parts.specs.Due.{written};
 ghost use Rattle.walrus_emit.specs.Left.{LeavesDeclared};
 ghost use Rattle.walrus_emit.specs.Listed.{listed};
+ghost use Rattle.walrus_emit.specs.Whole as due;
+ghost use Rattle.walrus_emit.specs.Written.{IsStandard, IsWritten};
 
 use crate::checks::check_module;
+use crate::contents::write_all;
 use crate::context::EmitContext;
-use crate::emit::Emit;
 use crate::segment::declare;
 use crate::transform::transform_of;
 use std::alloc::Global;
-use walrus_arena::FunctionId;
 use walrus_emit_code::Emission;
-use walrus_emit_customs::{emit_names, transform_sections, write_sections};
-use walrus_emit_numbers::{BodyFacts, facts_of, names_data};
-use walrus_emit_parts::write_bytes;
-use walrus_emit_types::emit_types;
-use walrus_emit_uses::{emit_data_count, emit_function_types, emit_start};
+use walrus_emit_customs::{transform_sections, write_sections};
+use walrus_emit_numbers::{BodyFacts, facts_of};
 use walrus_errors::{Limited, ModuleError, Result};
-use walrus_index_maps::IdsToIndices;
 use walrus_module::Module;
 use walrus_sections::{CodeTransform, CustomSection};
 
@@ -29,103 +28,19 @@ pub type Emitted = Emission;
 // The most bytes that a file may have.
 const MAX_FILE: usize = 1 << 30;
 
-const HEADER: [u8; 8] = [0x00, 0x61, 0x73, 0x6d, 0x01, 0x00, 0x00, 0x00];
-
-// The header, and the custom sections that stand first. They are asked with no numbers given.
-fn emit_first<B: CustomSection>(cx: &mut EmitContext<'_, B>) -> Result<()> {
-    write_bytes(&mut cx.emission.bytes, &HEADER)?;
-    let none = IdsToIndices::new(cx.alloc);
-    let sections = &cx.module.customs;
-    write_sections(cx.alloc, &mut cx.emission.bytes, sections, true, &none)
-}
-
-// The functions with bodies, in the order in which they are written.
-fn ordered<B>(cx: &EmitContext<'_, B>) -> Result<Vec<FunctionId>> {
-    let mut order = Vec::with_capacity(cx.alloc, cx.order.len())?;
-    for at in &cx.order {
-        order.push(cx.facts[*at].function)?;
-    }
-    Ok(order)
-}
-
-fn emit_functions_of<B>(cx: &mut EmitContext<'_, B>) -> Result<()> {
-    let order = ordered(&*cx)?;
-    let functions = &cx.module.funcs;
-    emit_function_types(
-        &mut cx.emission.bytes,
-        functions,
-        order.as_slice(),
-        &cx.emission.indices,
-    )
-}
-
-// The sections in front of the tables.
-fn emit_front<B>(cx: &mut EmitContext<'_, B>) -> Result<()> {
-    let input = cx.module;
-    emit_types(&mut cx.emission.bytes, &cx.types)?;
-    Emit::emit(&input.imports, cx)?;
-    emit_functions_of(cx)
-}
-
-// The sections from the tables to the exports.
-fn emit_items<B>(cx: &mut EmitContext<'_, B>) -> Result<()> {
-    let input = cx.module;
-    Emit::emit(&input.tables, cx)?;
-    Emit::emit(&input.memories, cx)?;
-    Emit::emit(&input.tags, cx)?;
-    Emit::emit(&input.globals, cx)?;
-    Emit::emit(&input.exports, cx)
-}
-
-// The sections behind the exports.
-fn emit_uses<B>(cx: &mut EmitContext<'_, B>) -> Result<()> {
-    let input = cx.module;
-    emit_start(&mut cx.emission.bytes, input.start, &cx.emission.indices)?;
-    Emit::emit(&input.elements, cx)?;
-    let is_named = names_data(cx.facts);
-    emit_data_count(&mut cx.emission.bytes, &input.data_segments, is_named)?;
-    Emit::emit(&input.funcs, cx)?;
-    Emit::emit(&input.data_segments, cx)
-}
-
-// The section of names.
-fn emit_names_of<B>(cx: &mut EmitContext<'_, B>) -> Result<()> {
-    let order = cx.order.as_slice();
-    emit_names(
-        cx.alloc,
-        &mut cx.emission.bytes,
-        cx.module,
-        &cx.types,
-        cx.facts,
-        order,
-        &cx.emission.indices,
-    )
-}
-
-// The sections of names and producers, as the flags ask.
-fn emit_payloads<B>(cx: &mut EmitContext<'_, B>) -> Result<()> {
-    let input = cx.module;
-    if input.config().generate_name_section {
-        emit_names_of(cx)?;
-    }
-    if input.config().generate_producers_section {
-        Emit::emit(&input.producers, cx)?;
-    }
-    Ok(())
-}
-
 // All sections but the other custom ones.
-fn emit_standard<B: CustomSection>(
+#[tactic(auto, using(crate::proofs::WrittenLemmas::is_standard))]
+fn emit_standard<'a, B: CustomSection>(
     alloc: Global,
-    input: &Module<B>,
-    facts: &[BodyFacts],
-) -> Result<Emission> {
+    input: &'a Module<B>,
+    facts: &'a [BodyFacts],
+) -> Result<Emission>
+    ensures { IfOk result (IsStandard B.own_name B.contents input.now facts.now) }
+{
     let mut cx = EmitContext::new(alloc, input, facts)?;
-    emit_first(&mut cx)?;
-    emit_front(&mut cx)?;
-    emit_items(&mut cx)?;
-    emit_uses(&mut cx)?;
-    emit_payloads(&mut cx)?;
+    let at = &mut cx;
+    let order = at.order.as_slice();
+    write_all(alloc, &mut at.emission, input, &at.types, facts, order)?;
     Ok(cx.emission)
 }
 
@@ -168,7 +83,8 @@ fn emit_last<B: CustomSection>(
     input: &Module<B>,
     mut emission: Emission,
 ) -> Result<Emitted>
-    ensures { IfOk result (λ emitted. length emitted.bytes.items ≤ 2 ^ 30) }
+    ensures small { IfOk result (λ emitted. length emitted.bytes.items ≤ 2 ^ 30) }
+    ensures written { IfOk result (λ emitted. written emitted.bytes.items ≡ written emission.bytes.items ++ due.sections B.own_name B.contents false (indices emission.indices) input.now.customs) }
 {
     let bytes = &mut emission.bytes;
     write_sections(alloc, bytes, &input.customs, false, &emission.indices)?;
@@ -185,14 +101,17 @@ fn emit_last<B: CustomSection>(
 ///
 /// `SectionRefused` where a section of a program's own refuses to say what is in it; `OutputLimit` where a limit of the standard's readers
 /// is passed; want of memory. The module is as it was, but for at most one declared segment, and sections that were told where code stands.
+#[tactic(auto, using(crate::proofs::DeclaredLemmas::leaves, crate::proofs::DeclaredLemmas::leaves_it, crate::proofs::WrittenLemmas::is_written))]
 pub fn emit_sound<B: CustomSection>(alloc: Global, input: &mut Module<B>) -> Result<Emitted>
     ensures small { IfOk result (λ emitted. length emitted.bytes.items ≤ 2 ^ 30) }
     ensures left { LeavesDeclared (parts input.old) (parts input.new) }
     ensures untold { input.old.config.preserve_code_transform ≡ false → input.new.customs ≡ input.old.customs }
+    ensures written { IfOk result (λ emitted. IsWritten B.own_name B.contents input.old input.new emitted.bytes.items) }
 {
-    let facts = facts_of(alloc, &input.funcs)?;
-    declare(alloc, input, facts.as_slice())?;
-    let emission = emit_standard(alloc, &*input, facts.as_slice())?;
+    let found = facts_of(alloc, &input.funcs)?;
+    let facts = found.as_slice();
+    declare(alloc, input, facts)?;
+    let emission = emit_standard(alloc, &*input, facts)?;
     tell(alloc, input, &emission)?;
     emit_last(alloc, &*input, emission)
 }
@@ -221,6 +140,7 @@ impl<B: CustomSection> EmitWasm for Module<B> {
         ensures sound { OnOk result (IsSound (parts self.old) (listed (parts self.old))) }
         ensures left { LeavesDeclared (parts self.old) (parts self.new) }
         ensures untold { self.old.config.preserve_code_transform ≡ false → self.new.customs ≡ self.old.customs }
+        ensures written { IfOk result (λ bytes. IsWritten B.own_name B.contents self.old self.new bytes.items) }
         ensures refused { IfErr result (λ e. (IsRefused (parts self.old) (listed (parts self.old)) e × (self.new ≡ self.old)) ⊎ IsSound (parts self.old) (listed (parts self.old))) }
     {
         check_module(alloc, &*self)?;
@@ -233,6 +153,7 @@ impl<B: CustomSection> EmitWasm for Module<B> {
         ensures sound { OnOk result (IsSound (parts self.old) (listed (parts self.old))) }
         ensures left { LeavesDeclared (parts self.old) (parts self.new) }
         ensures untold { self.old.config.preserve_code_transform ≡ false → self.new.customs ≡ self.old.customs }
+        ensures written { IfOk result (λ answer. IsWritten B.own_name B.contents self.old self.new answer.0.items) }
         ensures refused { IfErr result (λ e. (IsRefused (parts self.old) (listed (parts self.old)) e × (self.new ≡ self.old)) ⊎ IsSound (parts self.old) (listed (parts self.old))) }
     {
         check_module(alloc, &*self)?;

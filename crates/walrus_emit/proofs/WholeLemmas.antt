@@ -1,0 +1,99 @@
+-- A module is written section by section.
+use Rattle.std.specs.Prelude.{ℕ, ◌≡◌, ◌<◌, ◌^◌, ◌⊎◌, Bool, true, false, List, [], ◌++◌, length, map, Option, Result, Ok, Err, OnOk, refl}
+use Rattle.std.specs.List.Sorted.{IsPermutation}
+use Rattle.std.proofs.Common.{sym, subst, inl, inr}
+use Rattle.wasm_grammar.specs.Modules.{Function}
+use Rattle.wasm_operators.proofs.Keeps.{keeps_all}
+use Rattle.walrus_operators.specs.Appended.{Keeps}
+use Rattle.walrus_errors.specs.declared.error.ModuleError.{ModuleError}
+use Rattle.walrus_errors.specs.declared.error.ModuleError.TheVariants.{Memory}
+use Rattle.walrus_index_maps.specs.Maps.{Indices}
+use Rattle.walrus_index_maps.specs.Runs.{run_from}
+use Rattle.walrus_module.specs.walrus_body_writer.walrus_pairing.Looks.{Look}
+use Rattle.walrus_payload_writers.specs.Writes as payloads
+use Rattle.walrus_types.specs.Emission.{IsEmission}
+use Rattle.walrus_types.specs.Inverse.{AreInverse}
+use Rattle.walrus_types.specs.Table.{Table}
+use Rattle.walrus_types.specs.declared.emit.EmittedTypes.{EmittedTypes}
+use Rattle.walrus_types.specs.walrus_forms.Records.{type_group}
+use Rattle.walrus_emit_numbers.specs.declared.facts.BodyFacts.{BodyFacts}
+use Rattle.walrus_emit_parts.specs.Due.{Due, IsTooMany, Lacks, Refused, Writes, written}
+use Rattle.walrus_emit_parts.proofs.Lemmas.{nothing, puts, refused_memory, writes_on, written_size}
+use Rattle.walrus_emit_uses.specs.FunctionTypes.{function_types}
+use Rattle.walrus_emit.specs.Settled.{AreEmitted, IsOrder}
+use Rattle.walrus_emit.specs.Whole.{if_asked, types}
+use Rattle.walrus_emit.specs.Written.{WroteNames, WroteTypes}
+
+pub are_emitted : (t : Table) (types : EmittedTypes) → IsEmission t (map type_group types.groups.items) types.indices → AreInverse types.ids.items types.indices → AreEmitted t types
+are_emitted t types groups ids = record { groups = groups; ids = ids }
+
+pub is_order : (facts : List BodyFacts) (order : List ℕ) → IsPermutation (run_from 0 (length facts)) order → IsOrder facts order
+is_order facts order all = record { all = all }
+
+-- ---- one section
+
+-- nothing was written, as memory was wanted
+pub wanted : (due : Due) (old : List ℕ) → Refused due old old Memory
+wanted due old = refused_memory due old old (keeps_all old old refl)
+
+-- a payload that is written by itself
+pub payload_written : (bytes old new : List ℕ) (r : Result (Unit {0}) ModuleError) → payloads.Writes bytes old new r → Writes (written bytes) old new r
+payload_written bytes old new (Ok x) h = puts old new bytes h
+payload_written bytes old new (Err e) h = record { keeps = h.keeps; cause = cause h.cause }
+  where
+    cause : (e ≡ Memory) ⊎ payloads.IsTooMany (length bytes) e → (e ≡ Memory) ⊎ (Lacks (written bytes) e ⊎ IsTooMany (length (written bytes)) e)
+    cause (inl memory) = inl memory
+    cause (inr many) = inr (inr (many.0, subst (λ (n : ℕ). 2 ^ 30 < n) (sym (written_size bytes)) many.1))
+
+-- what isn't asked for isn't written
+pub not_asked : (asked : Bool) (due : Due) (old : List ℕ) → asked ≡ false → written old ≡ written old ++ if_asked asked due
+not_asked asked due old is = rw is (nothing old)
+
+pub asked : (asked : Bool) (due : Due) (old new : List ℕ) (r : Result (Unit {0}) ModuleError) → asked ≡ true → Writes due old new r → Writes (if_asked asked due) old new r
+asked is due old new r e h = rw e h
+
+pub asked_payload : (is : Bool) (bytes old new : List ℕ) (r : Result (Unit {0}) ModuleError) → is ≡ true → payloads.Writes bytes old new r → Writes (if_asked is (written bytes)) old new r
+asked_payload is bytes old new r e h = asked is (written bytes) old new r e (payload_written bytes old new r h)
+
+-- a part is refused behind one that was written
+pub refused_later : (old mid new : List ℕ) (a b : Due) (e : ModuleError) → written mid ≡ written old ++ a → Refused b mid new e → Refused (a ++ b) old new e
+refused_later old mid new a b e h r = writes_on old mid new a b (Err e) h r
+
+-- the types of functions, of any locals
+pub functions_written : (look : Look) (slots : List (Option Function)) (ids order : List ℕ) (old new : List ℕ) (r : Result (Unit {0}) ModuleError) → ids ≡ order → Writes (function_types look slots ids) old new r
+    → Writes (function_types look slots order) old new r
+functions_written look slots ids order old new r is h = subst (λ (l : List ℕ). Writes (function_types look slots l) old new r) is h
+
+-- ---- types
+
+pub wrote_types : (t : Table) (emitted : EmittedTypes) (old new : List ℕ) (r : Result (Unit {0}) ModuleError) → AreEmitted t emitted → Writes (types emitted) old new r → OnOk r (WroteTypes t old new)
+wrote_types t emitted old new (Ok x) are h = record { emitted = emitted; are = are; wrote = h }
+wrote_types t emitted old new (Err e) are h = tt
+
+-- ---- names
+
+pub no_names : (is : Bool) (old : List ℕ) → is ≡ false → WroteNames (if_asked is) old old
+no_names is old e = record { names = []; wrote = rw e (nothing old) }
+
+-- NAMES: of any names that were put behind, as long as no more is known of them
+pub some_names : (is : Bool) (old new : List ℕ) (r : Result (Unit {0}) ModuleError) → is ≡ true → Keeps old new → OnOk r (WroteNames (if_asked is) old new)
+some_names is old new (Ok x) e h = record { names = written h.more; wrote = rw e (puts old new h.more h.behind) }
+some_names is old new (Err x) e h = tt
+
+-- a part behind names
+pub names_then : (due : Due → Due) (b : Due) (old mid new : List ℕ) (r : Result (Unit {0}) ModuleError) → WroteNames due old mid → Writes b mid new r
+    → OnOk r (WroteNames (λ (names : Due). due names ++ b) old new)
+names_then due b old mid new (Ok x) h w = record { names = h.names; wrote = writes_on old mid new (due h.names) b (Ok x) h.wrote w }
+names_then due b old mid new (Err e) h w = tt
+
+-- names behind a part
+pub then_names : (a : Due) (due : Due → Due) (old mid new : List ℕ) (r : Result (Unit {0}) ModuleError) → written mid ≡ written old ++ a → OnOk r (WroteNames due mid new)
+    → OnOk r (WroteNames (λ (names : Due). a ++ due names) old new)
+then_names a due old mid new (Ok x) h w = record { names = w.names; wrote = writes_on old mid new a (due w.names) (Ok x) h w.wrote }
+then_names a due old mid new (Err e) h w = tt
+
+-- code, and what stands behind it with the numbers that it leaves
+pub code_then : (a b : Due) (due : Indices → Due → Due) (i j : Indices) (old mid more new : List ℕ) (r : Result (Unit {0}) ModuleError) → i ≡ j → written mid ≡ written old ++ a
+    → written more ≡ written mid ++ b → OnOk r (WroteNames (due i) more new) → OnOk r (WroteNames (λ (names : Due). a ++ (b ++ due j names)) old new)
+code_then a b due i j old mid more new r is first second w =
+    then_names a (λ (names : Due). b ++ due j names) old mid new r first (then_names b (due j) mid more new r second (subst (λ (k : Indices). OnOk r (WroteNames (due k) more new)) is w))
