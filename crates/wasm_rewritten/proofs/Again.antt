@@ -1,13 +1,12 @@
--- Lemmas: what is reached in a module whose bodies are normal forms is reached in its normal form, types aside; so rewriting drops none of its items.
-use Rattle.std.specs.Prelude.{ℕ, ◌≡◌, ◌⊎◌, ◌<◌, Bool, true, false, List, [], ◌∷◌, ◌++◌, length, map, Contains, MatchOption, Option, Some, None, IsSome, slice_get, slice_index_or, refl}
+-- Lemmas: what is reached in a module whose bodies are normal forms is reached in its normal form, types aside.
+use Rattle.std.specs.Prelude.{ℕ, ◌≡◌, Bool, List, [], ◌∷◌, ◌++◌, map, Contains, MatchOption, Option, Some, None, refl}
 use Rattle.std.specs.List.{flat_map}
 use Rattle.std.specs.Option.{option_map, option_to_list}
-use Rattle.std.proofs.Common.{ap, sym, ◌∙◌, subst, arith, inl, inr}
-use Rattle.std.proofs.lemmas.List.{length-map}
+use Rattle.std.proofs.Common.{ap, sym, ◌∙◌, subst, inl, inr}
 use Rattle.walrus_forms.specs.declared.value.ValType.{ValType}
 use Rattle.walrus_forms.specs.Records.{TypeGroup}
 use Rattle.walrus_forms.specs.Values.{ref_name}
-use Rattle.walrus_forms.specs.Renaming.{renamed_ref}
+use Rattle.walrus_forms.specs.Renaming.{renamed_ref, renamed_value}
 use Rattle.wasm_features.specs.declared.WasmFeatures.{WasmFeatures}
 use Rattle.wasm_formats.specs.declared.fault.Space.{Space as FileSpace}
 use Rattle.wasm_formats.specs.declared.fault.Space.TheVariants as spaces
@@ -26,13 +25,11 @@ use Rattle.wasm_normal_form.specs.Laws.{NormalNests, TreeIsOne}
 use Rattle.wasm_normal_form.specs.Normal.{normal_ops}
 use Rattle.wasm_ruled_normal.specs.Normal.{text_of}
 use Rattle.wasm_run_names.specs.Picks.{block_pick}
-use Rattle.walrus_forms.specs.Renaming.{renamed_value}
 use Rattle.wasm_normal_modules.specs.Modules.{by_types, each, normal_function, normal_module, normal_origin, retyped_element, retyped_expr, retyped_global, retyped_items, retyped_mode, retyped_origin, retyped_segment, retyped_table, retyped_tag}
 use Rattle.wasm_normal_modules.proofs.Slots.{slot_sent}
 use Rattle.wasm_part.specs.Seen.{seen_as}
-use Rattle.wasm_part.specs.Part.{renumbered_item}
 use Rattle.wasm_rewritten.proofs.Goes.{Goes, IsNoType, blocks_go, expr_goes, exprs_go, goes_at, init_goes, ref_first, types_only, value_first}
-use Rattle.wasm_rewritten.proofs.LocalsNamed.{Among, among, among_left, among_right, among_split, contained, from_map, to_map}
+use Rattle.wasm_rewritten.proofs.LocalsNamed.{Among, among, among_left, among_right, among_split, contained}
 use Rattle.wasm_rewritten.proofs.Twice.{IsNormalCode, ops_again, types_stay}
 
 -- each body of the module is a normal form, renamed

@@ -1,5 +1,5 @@
 -- Lemmas: rewriting again what was rewritten drops none of its items but types.
-use Rattle.std.specs.Prelude.{ℕ, ◌≡◌, ◌⊎◌, ◌<◌, Bool, true, false, List, [], ◌++◌, length, map, Option, Some, None, IsSome, slice_get, slice_index_or, refl}
+use Rattle.std.specs.Prelude.{ℕ, ◌≡◌, ◌<◌, Bool, true, false, List, [], ◌++◌, length, map, Option, Some, None, IsSome, slice_get, slice_index_or, refl}
 use Rattle.std.specs.Option.{option_map}
 use Rattle.std.proofs.Common.{ap, sym, ◌∙◌, subst, arith, inl, inr}
 use Rattle.std.proofs.lemmas.Bool.{cases_lt}
@@ -12,16 +12,16 @@ use Rattle.wasm_formats.specs.declared.fault.Space.TheVariants as spaces
 use Rattle.wasm_operators.specs.Items.{Functions, Memories, DataSegments}
 use Rattle.wasm_operators.specs.NameLaws.{NamesAreRenamed}
 use Rattle.wasm_operators.specs.Operators.{Seen}
-use Rattle.wasm_grammar.specs.Modules.{Item, Origin, Own, Placed, Body, Function, Memory, Module}
+use Rattle.wasm_grammar.specs.Modules.{Item, Origin, Placed, Body, Function, Memory, Module}
 use Rattle.wasm_grammar.specs.States.{count_of}
 use Rattle.wasm_modules.specs.Laws.{ReadsOnce}
 use Rattle.wasm_references.specs.References.{Numbered, item, slot}
-use Rattle.wasm_references.specs.Kept.{IsFirstMemory, IsReached, IsSpared, Kept}
+use Rattle.wasm_references.specs.Kept.{IsFirstMemory, IsReached, IsSpared}
 use Rattle.wasm_normal_form.specs.Laws.{NormalNests, TreeIsOne}
 use Rattle.wasm_normal_modules.specs.Numbered.{NamesDecide}
 use Rattle.wasm_normal_modules.proofs.Slots.{get_some}
 use Rattle.wasm_ruled_modules.specs.Rules.{around_bodies}
-use Rattle.wasm_merged_modules.specs.Merged.{ids_of, kept_of, merged_module}
+use Rattle.wasm_merged_modules.specs.Merged.{ids_of, kept_of}
 use Rattle.wasm_module_bytes.specs.Bytes.{slot_unplaced}
 use Rattle.wasm_part.specs.Part.{IsIn, Plan, picked, renumbered_function, renumbered_item, renumbered_memory}
 use Rattle.wasm_part.specs.Kept.{HasKept}

@@ -1,9 +1,8 @@
 -- Lemmas: each item of what is written is reached there.
 use Rattle.std.specs.Prelude.{ℕ, zero, suc, ◌≡◌, ◌⊎◌, ◌<◌, Bool, List, [], ◌∷◌, ◌++◌, length, map, Contains, MatchOption, Option, Some, None, IsSome, slice_get, slice_index_or, refl}
-use Rattle.std.specs.List.{AllByRecursion}
 use Rattle.std.specs.Option.{option_map}
 use Rattle.std.proofs.Common.{ap, sym, ◌∙◌, subst, arith, inl, inr}
-use Rattle.std.proofs.lemmas.List.{length-append, length-map}
+use Rattle.std.proofs.lemmas.List.{length-map}
 use Rattle.walrus_forms.specs.declared.value.ValType.{ValType}
 use Rattle.wasm_features.specs.declared.WasmFeatures.{WasmFeatures}
 use Rattle.wasm_formats.specs.declared.fault.Space.{Space as FileSpace}
@@ -11,13 +10,13 @@ use Rattle.wasm_formats.specs.declared.fault.Space.TheVariants as spaces
 use Rattle.wasm_operators.specs.declared.block_type.BlockType.{BlockType}
 use Rattle.wasm_operators.specs.Items.{Space, Functions, Tables, Memories, Tags, Globals, ElementSegments, DataSegments}
 use Rattle.wasm_operators.specs.NameLaws.{NamesAreRenamed}
-use Rattle.wasm_grammar.specs.Modules.{Item, Expr, Origin, Body, Function, Table, Memory, Global, Mode, Passive, Declared, Active, Element, Segment, Module}
+use Rattle.wasm_grammar.specs.Modules.{Item, Expr, Body, Function, Table, Memory, Mode, Passive, Declared, Active, Element, Segment, Module}
 use Rattle.wasm_grammar.specs.States.{count_of}
-use Rattle.wasm_references.specs.References.{Numbered, Refers, RefersIn, HasData, HasElement, IsActiveIn, body_items, element_items, expr_items, function_items, global_items, item, named_by, origin_items, segment_items, tag_items, table_items, value_items}
+use Rattle.wasm_references.specs.References.{Numbered, RefersIn, HasData, HasElement, IsActiveIn, body_items, element_items, expr_items, function_items, global_items, item, named_by, origin_items, segment_items, tag_items, table_items}
 use Rattle.wasm_references.specs.Roots.{Root, exports, starts, is_active, fills_import, fills_any, declares, is_pushed}
 use Rattle.wasm_references.specs.Kept.{IsReached, Kept, refers, root}
 use Rattle.wasm_module_bytes.specs.Bytes.{origin_unplaced, slot_unplaced, without_places}
-use Rattle.wasm_part.specs.Part.{IsIn, Plan, declaring, part, picked, renumbered_body, renumbered_element, renumbered_export, renumbered_function, renumbered_global, renumbered_item, renumbered_memory, renumbered_mode, renumbered_own, renumbered_segment, renumbered_table, renumbered_tag}
+use Rattle.wasm_part.specs.Part.{IsIn, Plan, declaring, part, picked, renumbered_element, renumbered_export, renumbered_function, renumbered_global, renumbered_item, renumbered_memory, renumbered_mode, renumbered_segment, renumbered_table, renumbered_tag}
 use Rattle.wasm_part.specs.Closed.{IsListed}
 use Rattle.wasm_part.specs.Kept.{HasKept}
 use Rattle.wasm_part.specs.Handlers.{handler_groups}

@@ -1,5 +1,5 @@
 -- Lemmas: what the operators of a normal form name, types aside, those of its normal form name, whatever types are picked there.
-use Rattle.std.specs.Prelude.{ℕ, ◌≡◌, ◌⊎◌, Bool, true, false, List, [], ◌∷◌, ◌++◌, map, Option, None, refl}
+use Rattle.std.specs.Prelude.{ℕ, ◌≡◌, ◌⊎◌, Bool, true, false, List, [], ◌∷◌, ◌++◌, map, Option, refl}
 use Rattle.std.specs.List.{flat_map}
 use Rattle.std.proofs.Common.{ap, sym, ◌∙◌, subst, inl, inr}
 use Rattle.std.proofs.lemmas.List.{map-append}
@@ -7,7 +7,7 @@ use Rattle.walrus_forms.specs.declared.value.ValType.{ValType}
 use Rattle.wasm_formats.specs.declared.fault.Space.{Space as FileSpace}
 use Rattle.wasm_formats.specs.declared.fault.Space.TheVariants as spaces
 use Rattle.wasm_operators.specs.declared.block_type.BlockType.{BlockType}
-use Rattle.wasm_operators.specs.Items.{Space, Item as Immediate, Block}
+use Rattle.wasm_operators.specs.Items.{Item as Immediate, Block}
 use Rattle.wasm_operators.specs.Operators.{Seen}
 use Rattle.wasm_operators.specs.Names.{Name, Renaming, block_names, item_names, operator_names, renamed_operator}
 use Rattle.wasm_operators.specs.NameLaws.{NamesAreRenamed, renamed_name}

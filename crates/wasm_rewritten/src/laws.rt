@@ -10,8 +10,8 @@ ghost use Rattle.wasm_rewritten.specs.Runs.{CallsAreKept, CorrespondingRuns, Ent
 use walrus_forms::laws::same_kind_is_equality;
 use wasm_import_links::laws::{read_modules_are_full, read_modules_link};
 use wasm_merged_modules::laws::{merged_files_are_ruled, new_kinds_stand_behind, types_are_merged};
-use wasm_normal_form::laws::{normal_forms_are_normal, trees_are_one};
 use wasm_modules::laws::reads_once;
+use wasm_normal_form::laws::{normal_forms_are_normal, trees_are_one};
 use wasm_normal_modules::laws::{
     normal_forms_of_read_modules_are_ruled, numbered_operators_are_normal,
 };
