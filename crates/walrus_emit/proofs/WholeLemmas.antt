@@ -22,7 +22,7 @@ use Rattle.walrus_emit_parts.proofs.Lemmas.{nothing, puts, refused_memory, write
 use Rattle.walrus_emit_uses.specs.FunctionTypes.{function_types}
 use Rattle.walrus_emit.specs.Settled.{AreEmitted, IsOrder}
 use Rattle.walrus_emit.specs.Whole.{if_asked, types}
-use Rattle.walrus_emit.specs.Written.{WroteNames, WroteTypes}
+use Rattle.walrus_emit.specs.Written.{WroteTypes}
 
 pub are_emitted : (t : Table) (types : EmittedTypes) → IsEmission t (map type_group types.groups.items) types.indices → AreInverse types.ids.items types.indices → AreEmitted t types
 are_emitted t types groups ids = record { groups = groups; ids = ids }
@@ -70,30 +70,11 @@ pub wrote_types : (t : Table) (emitted : EmittedTypes) (old new : List ℕ) (r :
 wrote_types t emitted old new (Ok x) are h = record { emitted = emitted; are = are; wrote = h }
 wrote_types t emitted old new (Err e) are h = tt
 
--- ---- names
-
-pub no_names : (is : Bool) (old : List ℕ) → is ≡ false → WroteNames (if_asked is) old old
-no_names is old e = record { names = []; wrote = rw e (nothing old) }
-
--- NAMES: of any names that were put behind, as long as no more is known of them
-pub some_names : (is : Bool) (old new : List ℕ) (r : Result (Unit {0}) ModuleError) → is ≡ true → Keeps old new → OnOk r (WroteNames (if_asked is) old new)
-some_names is old new (Ok x) e h = record { names = written h.more; wrote = rw e (puts old new h.more h.behind) }
-some_names is old new (Err x) e h = tt
-
--- a part behind names
-pub names_then : (due : Due → Due) (b : Due) (old mid new : List ℕ) (r : Result (Unit {0}) ModuleError) → WroteNames due old mid → Writes b mid new r
-    → OnOk r (WroteNames (λ (names : Due). due names ++ b) old new)
-names_then due b old mid new (Ok x) h w = record { names = h.names; wrote = writes_on old mid new (due h.names) b (Ok x) h.wrote w }
-names_then due b old mid new (Err e) h w = tt
-
--- names behind a part
-pub then_names : (a : Due) (due : Due → Due) (old mid new : List ℕ) (r : Result (Unit {0}) ModuleError) → written mid ≡ written old ++ a → OnOk r (WroteNames due mid new)
-    → OnOk r (WroteNames (λ (names : Due). a ++ due names) old new)
-then_names a due old mid new (Ok x) h w = record { names = w.names; wrote = writes_on old mid new a (due w.names) (Ok x) h w.wrote }
-then_names a due old mid new (Err e) h w = tt
+-- ---- code
 
 -- code, and what stands behind it with the numbers that it leaves
-pub code_then : (a b : Due) (due : Indices → Due → Due) (i j : Indices) (old mid more new : List ℕ) (r : Result (Unit {0}) ModuleError) → i ≡ j → written mid ≡ written old ++ a
-    → written more ≡ written mid ++ b → OnOk r (WroteNames (due i) more new) → OnOk r (WroteNames (λ (names : Due). a ++ (b ++ due j names)) old new)
-code_then a b due i j old mid more new r is first second w =
-    then_names a (λ (names : Due). b ++ due j names) old mid new r first (then_names b (due j) mid more new r second (subst (λ (k : Indices). OnOk r (WroteNames (due k) more new)) is w))
+pub code_then : (a b : Due) (due : Indices → Due) (i j : Indices) (old mid more new : List ℕ) (r : Result (Unit {0}) ModuleError) → i ≡ j → written mid ≡ written old ++ a
+    → written more ≡ written mid ++ b → Writes (due i) more new r → OnOk r (written new ≡ written old ++ (a ++ (b ++ due j)))
+code_then a b due i j old mid more new (Ok x) is first second w =
+    writes_on old mid new a (b ++ due j) (Ok x) first (writes_on mid more new b (due j) (Ok x) second (subst (λ (k : Indices). written new ≡ written more ++ due k) is w))
+code_then a b due i j old mid more new (Err e) is first second w = tt

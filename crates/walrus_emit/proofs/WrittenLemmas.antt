@@ -20,7 +20,7 @@ use Rattle.walrus_emit_parts.proofs.Lemmas.{writes_on}
 use Rattle.walrus_emit.specs.Left.{Declares}
 use Rattle.walrus_emit.specs.Settled.{AreEmitted, IsOrder}
 use Rattle.walrus_emit.specs.Whole.{first, header, numbers, sections, standard, whole, with_bodies}
-use Rattle.walrus_emit.specs.Written.{IsStandard, IsWritten, WroteNames}
+use Rattle.walrus_emit.specs.Written.{IsStandard, IsWritten}
 
 module _ {B : Type 0} where
   -- a module is its parts and its custom sections
@@ -51,17 +51,16 @@ module _ {B : Type 0} where
 module _ {B : Type 0} (own_name : B → List ℕ) (contents : B → Indices → Option (List ℕ)) where
   pub is_standard : (input : Module B) (facts : List BodyFacts) (taken order : List ℕ) (emitted : EmittedTypes) (none : List ℕ) (i : Indices) (emission : Emission) → taken ≡ order
       → IsOrder facts order → AreEmitted input.types emitted → none ≡ [] → i ≡ numbers input facts order emitted → indices emission.indices ≡ with_bodies input facts taken i
-      → WroteNames (standard own_name contents input facts taken emitted i) none emission.bytes.items → IsStandard own_name contents input facts emission
+      → written emission.bytes.items ≡ written none ++ standard own_name contents input facts taken emitted i → IsStandard own_name contents input facts emission
   is_standard input facts taken order emitted none i emission same ordered types empty is numbered w = record {
     order = order;
     ordered = ordered;
     emitted = emitted;
     types = types;
-    names = w.names;
     numbers_are = numbered ∙ ap (λ (o : List ℕ). with_bodies input facts o i) same ∙ ap (λ (k : Indices). with_bodies input facts order k) is;
-    bytes_are = w.wrote ∙ ap (λ (l : List ℕ). written l ++ standard own_name contents input facts taken emitted i w.names) empty
-        ∙ ap (λ (o : List ℕ). standard own_name contents input facts o emitted i w.names) same
-        ∙ ap (λ (k : Indices). standard own_name contents input facts order emitted k w.names) is;
+    bytes_are = w ∙ ap (λ (l : List ℕ). written l ++ standard own_name contents input facts taken emitted i) empty
+        ∙ ap (λ (o : List ℕ). standard own_name contents input facts o emitted i) same
+        ∙ ap (λ (k : Indices). standard own_name contents input facts order emitted k) is;
   }
 
   pub is_written : (old mid new : Module B) (facts taken : List BodyFacts) (emission : Emission) (r : Result Emission ModuleError) → taken ≡ facts
@@ -77,10 +76,9 @@ module _ {B : Type 0} (own_name : B → List ℕ) (contents : B → Indices → 
     ordered = s.ordered;
     emitted = s.emitted;
     types = subst (λ (p : Parts). AreEmitted p.types s.emitted) (sym rest) s.types;
-    names = s.names;
     bytes_are = last ∙ ap (λ (l : Due). l ++ sections own_name contents false (indices emission.indices) new.customs) s.bytes_are
-        ∙ ap (λ (k : Indices). standard own_name contents mid taken s.order s.emitted (numbers mid taken s.order s.emitted) s.names ++ sections own_name contents false k new.customs) s.numbers_are
-        ∙ ap (λ (m : Module B). whole own_name contents m taken s.order s.emitted s.names new.customs) (same_module mid new old.customs rest customs);
+        ∙ ap (λ (k : Indices). standard own_name contents mid taken s.order s.emitted (numbers mid taken s.order s.emitted) ++ sections own_name contents false k new.customs) s.numbers_are
+        ∙ ap (λ (m : Module B). whole own_name contents m taken s.order s.emitted new.customs) (same_module mid new old.customs rest customs);
   }
   is_written old mid new facts taken emission (Err e) same known declared customs s rest last = tt
 

@@ -17,6 +17,7 @@ use Rattle.walrus_types.specs.declared.emit.EmittedTypes.{EmittedTypes}
 use Rattle.walrus_types.specs.walrus_forms.Records.{type_group}
 use Rattle.walrus_emit_code.specs.Code.{bodies_numbers, code, facts_at}
 use Rattle.walrus_emit_customs.specs.Customs.{customs}
+use Rattle.walrus_emit_customs.specs.Names.{names_due}
 use Rattle.walrus_emit_numbers.specs.Numbers.{functions_at, numbers_of}
 use Rattle.walrus_emit_numbers.specs.declared.facts.BodyFacts.{BodyFacts}
 use Rattle.walrus_emit_parts.specs.Due.{Due, limited, written}
@@ -83,6 +84,10 @@ module _ {B : Type 0} (input : Module B) (facts : List BodyFacts) (order : List 
   abbrev pub with_bodies : Indices → Indices
   with_bodies i = bodies_numbers input.locals input.funcs i (facts_at facts order)
 
+  -- what stands behind code, where items and locals have these numbers
+  abbrev pub closing : EmittedTypes → Indices → Due
+  closing emitted i = behind_code input (number_of i 0) (names_due (parts input) emitted (facts_at facts order) i)
+
 -- ---- all of it
 
 -- custom sections are named by the one, and say what they hold by the other, given the numbers
@@ -104,11 +109,9 @@ module _ {B : Type 0} (own_name : B → List ℕ) (contents : B → Indices → 
         ++ before_code (number_of i 0) (means (parts input)) emitted (functions_at facts order) (list_any (λ (f : BodyFacts). f.uses_data_segments) facts)
 
     -- with code and what stands behind it, where items have these numbers
-    abbrev pub standard : Indices → Due → Due
-    standard i names =
-        opening i ++ (code input.locals input.funcs i (facts_at facts order) ++ behind_code input (number_of (with_bodies input facts order i) 0) names)
+    abbrev pub standard : Indices → Due
+    standard i = opening i ++ (code input.locals input.funcs i (facts_at facts order) ++ closing input facts order emitted (with_bodies input facts order i))
 
     -- and the other custom sections, as they are once a program's own were told where code stands
-    abbrev pub whole : Due → Arena (Section B) → Due
-    whole names told =
-        standard (numbers input facts order emitted) names ++ sections false (with_bodies input facts order (numbers input facts order emitted)) told
+    abbrev pub whole : Arena (Section B) → Due
+    whole told = standard (numbers input facts order emitted) ++ sections false (with_bodies input facts order (numbers input facts order emitted)) told

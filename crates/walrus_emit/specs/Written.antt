@@ -13,7 +13,7 @@ use Rattle.walrus_emit_code.specs.declared.emission.Emission.{Emission}
 use Rattle.walrus_emit_numbers.specs.Facts.{AreFacts}
 use Rattle.walrus_emit_numbers.specs.Undeclared.{undeclared_of}
 use Rattle.walrus_emit_numbers.specs.declared.facts.BodyFacts.{BodyFacts}
-use Rattle.walrus_emit_parts.specs.Due.{Due, written}
+use Rattle.walrus_emit_parts.specs.Due.{written}
 use Rattle.walrus_emit.specs.Left.{Declares}
 use Rattle.walrus_emit.specs.Settled.{AreEmitted, IsOrder}
 use Rattle.walrus_emit.specs.Whole.{numbers, standard, types, whole, with_bodies}
@@ -24,12 +24,6 @@ pub record WroteTypes (t : Table) (old new : List ℕ) : Type 0 where
   pub are : AreEmitted t emitted
   pub wrote : written new ≡ written old ++ types emitted
 
--- what is due with some names stands behind what was there. NAMES: what the section of names says of the module is a further field here, and in the
--- two records below
-pub record WroteNames (due : Due → Due) (old new : List ℕ) : Type 0 where
-  pub names : Due
-  pub wrote : written new ≡ written old ++ due names
-
 module _ {B : Type 0} (own_name : B → List ℕ) (contents : B → Indices → Option (List ℕ)) where
   -- all but the custom sections that stand behind the others: with these facts, in some order of the bodies
   pub record IsStandard (input : Module B) (facts : List BodyFacts) (emission : Emission) : Type 0 where
@@ -37,9 +31,8 @@ module _ {B : Type 0} (own_name : B → List ℕ) (contents : B → Indices → 
     pub ordered : IsOrder facts order
     pub emitted : EmittedTypes
     pub types : AreEmitted input.types emitted
-    pub names : Due
     pub numbers_are : indices emission.indices ≡ with_bodies input facts order (numbers input facts order emitted)
-    pub bytes_are : written emission.bytes.items ≡ standard own_name contents input facts order emitted (numbers input facts order emitted) names
+    pub bytes_are : written emission.bytes.items ≡ standard own_name contents input facts order emitted (numbers input facts order emitted)
 
   -- the module as it was, with the functions declared that have to be; its custom sections that stand first were asked before, and the others after they
   -- were told where code stands
@@ -51,5 +44,4 @@ module _ {B : Type 0} (own_name : B → List ℕ) (contents : B → Indices → 
     pub ordered : IsOrder facts order
     pub emitted : EmittedTypes
     pub types : AreEmitted new.types emitted
-    pub names : Due
-    pub bytes_are : written bytes ≡ whole own_name contents (record new { customs = old.customs }) facts order emitted names new.customs
+    pub bytes_are : written bytes ≡ whole own_name contents (record new { customs = old.customs }) facts order emitted new.customs

@@ -16,7 +16,7 @@ ghost use Rattle.walrus_emit_numbers.specs.Order.{AreWithin};
 ghost use Rattle.walrus_emit_parts.specs.Due.{Writes, written};
 ghost use Rattle.walrus_emit_uses.specs.FunctionTypes.{function_types};
 ghost use Rattle.walrus_emit.specs.Whole as due;
-ghost use Rattle.walrus_emit.specs.Written.{WroteNames};
+ghost use Rattle.walrus_emit_customs.specs.Names.{names_due};
 ghost use Rattle.std.specs.List.{list_any};
 
 use std::alloc::{AllocError, Global};
@@ -191,7 +191,7 @@ fn write_code<B>(
 }
 
 // The section of names, where it is asked for.
-#[tactic(auto, using(crate::proofs::WholeLemmas::no_names, crate::proofs::WholeLemmas::some_names))]
+#[tactic(auto, using(crate::proofs::WholeLemmas::not_asked, crate::proofs::WholeLemmas::asked))]
 fn write_names<B>(
     alloc: Global,
     out: &mut Vec<u8>,
@@ -202,7 +202,7 @@ fn write_names<B>(
     maps: &IdsToIndices,
 ) -> Result<()>
     requires { AreWithin facts.now order.now }
-    ensures { OnOk result (WroteNames (due.if_asked input.now.config.generate_name_section) out.old.items out.new.items) }
+    ensures { Writes (due.if_asked input.now.config.generate_name_section (names_due (parts input.now) types.now (facts_at facts.now order.now) (indices maps.now))) out.old.items out.new.items result }
 {
     if !input.config().generate_name_section {
         return Ok(());
@@ -232,7 +232,7 @@ fn write_payloads<B>(
     maps: &IdsToIndices,
 ) -> Result<()>
     requires { AreWithin facts.now order.now }
-    ensures { OnOk result (WroteNames (due.payloads input.now) out.old.items out.new.items) }
+    ensures { Writes (due.payloads input.now (names_due (parts input.now) types.now (facts_at facts.now order.now) (indices maps.now))) out.old.items out.new.items result }
 {
     put!(write_names(alloc, out, input, types, facts, order, maps));
     write_made_by(out, input)
@@ -249,7 +249,7 @@ fn write_behind_code<B>(
     maps: &IdsToIndices,
 ) -> Result<()>
     requires { AreWithin facts.now order.now }
-    ensures { OnOk result (WroteNames (due.behind_code input.now (number_of (indices maps.now) 0)) out.old.items out.new.items) }
+    ensures { Writes (due.closing input.now facts.now order.now types.now (indices maps.now)) out.old.items out.new.items result }
 {
     put!(emit_data(out, &input.data_segments, maps));
     write_payloads(alloc, out, input, types, facts, order, maps)
@@ -270,7 +270,7 @@ pub(crate) fn write_all<B: CustomSection>(
 ) -> Result<()>
     requires { AreWithin facts.now order.now }
     ensures numbered { OnOk result (indices emission.new.indices ≡ due.with_bodies input.now facts.now order.now (indices emission.old.indices)) }
-    ensures written { OnOk result (WroteNames (due.standard B.own_name B.contents input.now facts.now order.now types.now (indices emission.old.indices)) emission.old.bytes.items emission.new.bytes.items) }
+    ensures written { OnOk result (written emission.new.bytes.items ≡ written emission.old.bytes.items ++ due.standard B.own_name B.contents input.now facts.now order.now types.now (indices emission.old.indices)) }
 {
     let out = &mut emission.bytes;
     write_opening(alloc, out, input, types, facts, order, &emission.indices)?;

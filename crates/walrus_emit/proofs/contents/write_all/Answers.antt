@@ -1,8 +1,7 @@
 use Rattle.walrus_index_maps.specs.Views.{indices}
 use Rattle.walrus_index_maps.specs.Maps.{Indices}
-use Rattle.walrus_module.specs.walrus_body_writer.walrus_pairing.Looks.{number_of}
 use Rattle.walrus_emit_code.specs.Code.{code, facts_at}
-use Rattle.walrus_emit.specs.Whole.{behind_code, opening}
+use Rattle.walrus_emit.specs.Whole.{closing, opening}
 use Rattle.walrus_emit.proofs.WholeLemmas.{code_then}
 use Rattle.walrus_emit.proofs.contents.write_all.Goals as goal
 
@@ -10,5 +9,5 @@ pub returns-clause-written : goal.returns-clause-written
 returns-clause-written g c =
     let i : Indices = indices c.args.emission.now.indices in
     code_then (opening g.B.CustomSection.own_name g.B.CustomSection.contents c.args.input.now c.args.facts.now c.args.order.now c.args.types.now i)
-    (code c.args.input.now.locals c.args.input.now.funcs i (facts_at c.args.facts.now c.args.order.now)) (λ (k : Indices). behind_code c.args.input.now (number_of k 0)) _ _ _ _ _ _ _
+    (code c.args.input.now.locals c.args.input.now.funcs i (facts_at c.args.facts.now c.args.order.now)) (λ (k : Indices). closing c.args.input.now c.args.facts.now c.args.order.now c.args.types.now k) _ _ _ _ _ _ _
     c.in_ok-write_code.ensures.numbered c.in_ok-write_opening.ensures c.in_ok-write_code.ensures.written c.write_behind_code.ensures
