@@ -125,7 +125,11 @@ fn command<'a>(alloc: Global) -> Result<Command<'a>, AllocError> {
         .arg(flag(alloc, "no-producers", "Write no `producers` section"))?
         .arg(flag(alloc, "stable", "Accept stable features alone"))?
         .arg(flag(alloc, "no-legacy", "Refuse legacy exception operators"))?
-        .arg(flag(alloc, "keep-segments", "Keep all active element segments, with their tables"))?
+        .arg(flag(
+            alloc,
+            "keep-segments",
+            "Keep all active element segments, with their tables",
+        ))?
         .arg(positional(alloc, "INPUT", "The module to read; `-` is standard input"))?
         .arg(positional(
             alloc,

@@ -31,7 +31,7 @@ use Rattle.walrus_parse_laws.specs.walrus_meaning.walrus_body_writer.walrus_pair
 use Rattle.walrus_parse_laws.specs.FilledGroups.{is_new, kept, renamed_group}
 use Rattle.walrus_parse_laws.specs.Meaning.{type_id}
 use Rattle.walrus_parse_laws.specs.Renamed as into
-use Rattle.walrus_parse_laws.specs.walrus_meaning.Meaning.{has_kinds, own_element, own_global, own_segment, own_table, own_tag}
+use Rattle.walrus_parse_laws.specs.walrus_meaning.Meaning.{has_kinds, own_element, own_global, own_segment, own_table, own_tag, table_init}
 use Rattle.walrus_parse_laws.specs.walrus_named_bodies.walrus_item_names.walrus_module.Parts.{parts}
 use Rattle.walrus_parse_laws.specs.walrus_named_bodies.walrus_item_names.walrus_module.declared.module.Module.{Module as Whole}
 use Rattle.walrus_parse_laws.specs.walrus_named_bodies.Parsed.{read_features}
@@ -122,7 +122,7 @@ module _ {B : Type 0} (carries : ParsingCarriesSame) (numbering : NumberedOperat
   tables =
       let e = ap (λ (x : grammar.Module). x.tables) h.meant in
       let P : grammar.Table → Type 0 = λ t. RefBelow types t.element × IsInit (knows_imported file) t.init in
-      e ∙ slots_alike own_table (into.retyped_table r) (normal.retyped_table s) P (λ t. InitPlain t.init) (λ t. init_plain t.init) (table_alike decide r s types same (knows_imported file) refl) (parts m).tables.slots file.tables e
+      e ∙ slots_alike own_table (into.retyped_table r) (normal.retyped_table s) P (λ t. InitPlain t.init) (λ t. init_plain (table_init t)) (table_alike decide r s types same (knows_imported file) refl) (parts m).tables.slots file.tables e
       (each_both (λ (t : grammar.Table). RefBelow types t.element) (λ (t : grammar.Table). IsInit (knows_imported file) t.init) file.tables rules.named.tables rules.expressed.tables)
 
   tags : (numbered (parts m)).tags ≡ map (option_map (normal.retyped_tag s)) file.tags

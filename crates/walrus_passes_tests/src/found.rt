@@ -19,14 +19,22 @@ fn are_exported(module: &Module) -> bool {
     let exports = &module.exports;
     exports.get_exported_table(TableId::from_index(1)).is_some()
         && exports.get_exported_table(TableId::from_index(0)).is_none()
-        && exports.get_exported_memory(MemoryId::from_index(1)).is_some()
-        && exports.get_exported_memory(MemoryId::from_index(0)).is_none()
+        && exports
+            .get_exported_memory(MemoryId::from_index(1))
+            .is_some()
+        && exports
+            .get_exported_memory(MemoryId::from_index(0))
+            .is_none()
 }
 
 fn are_imported(module: &Module) -> bool {
     let imports = &module.imports;
-    imports.get_imported_func(FunctionId::from_index(0)).is_some()
-        && imports.get_imported_func(FunctionId::from_index(1)).is_none()
+    imports
+        .get_imported_func(FunctionId::from_index(0))
+        .is_some()
+        && imports
+            .get_imported_func(FunctionId::from_index(1))
+            .is_none()
         && module.funcs.by_name("f").is_none()
         && matches!(module.get_memory_id(), Err(ModuleError::Several))
 }

@@ -371,5 +371,10 @@ const UNEXPORTED: [Step; 7] = [
 fn all_active_segments_are_kept(rt: HostRuntime) {
     let mut config = ModuleConfig::new();
     config.keep_segments(true);
-    assert!(rt; matches!(leave_with(rt.alloc(), config, &UNEXPORTED, [1, 1, 1, 1, 0]), Ok(true)));
+    assert!(rt;
+        matches!(
+            leave_with(rt.alloc(), config, &UNEXPORTED, [1, 1, 1, 1, 0]),
+            Ok(true)
+        )
+    );
 }

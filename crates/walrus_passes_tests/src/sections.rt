@@ -157,7 +157,5 @@ fn set_some(config: &mut ModuleConfig) {
 fn a_chain_of_setters_sets_its_flags(rt: HostRuntime) {
     let mut config = ModuleConfig::new();
     set_some(&mut config);
-    assert!(rt;
-        !config.generate_name_section && config.generate_dwarf && config.keep_segments
-    );
+    assert!(rt; !config.generate_name_section && config.generate_dwarf && config.keep_segments);
 }
