@@ -42,7 +42,6 @@ pub use Rattle.walrus_module_laws.specs.Edits
 pub use Rattle.walrus_pass_laws.specs.walrus_meaning.Bodies
 pub use Rattle.walrus_pass_laws.specs.walrus_meaning.Laws as MeaningLaws
 pub use Rattle.walrus_pass_laws.specs.walrus_meaning.Meaning
-pub use Rattle.walrus_pass_laws.specs.walrus_meaning.Segments
 pub use Rattle.walrus_pass_laws.specs.walrus_meaning.Words
 -- Modules that are read.
 pub use Rattle.wasm_modules.specs.Laws as FileLaws
