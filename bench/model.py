@@ -1,6 +1,8 @@
 """A second model of what `walrus_inspect` answers, written from the formats' text alone, without a look at this repository's definitions.
 
-`inspect(data, stable, legacy, kept)` gives the program's eleven lines, or raises `Fault`, which holds the place and the text of the refusal.
+`inspect(data, stable, legacy, kept, shared)` gives the program's eleven lines, or raises `Fault`, which holds the place and the text of the
+refusal; `shared` says whether shared abstract heap types are read.
+
 It is plain and slow, and shares nothing with the proved sources; bench/against_model.py compares the two on random modules.
 """
 
@@ -42,8 +44,8 @@ def passed(place, what):
 class Reader:
     """A window of the file."""
 
-    def __init__(self, data, at, end):
-        self.data, self.at, self.end = data, at, end
+    def __init__(self, data, at, end, shared=False):
+        self.data, self.at, self.end, self.shared = data, at, end, shared
 
     def peek(self):
         if self.at >= self.end:
@@ -112,7 +114,7 @@ class Reader:
         if self.peek() in ABSTRACT:
             return "abstract", self.byte()
         if self.peek() == 0x65:
-            raise Fault(place, READ, OFF)
+            return self.shared_heap()
         value = self.number(33, signed=True)
         if value < 0:
             raise Fault(place, READ, BAD)
@@ -120,14 +122,22 @@ class Reader:
             raise Fault(place, READ, PASSES)
         return "concrete", value
 
+    def shared_heap(self):
+        if not self.shared:
+            raise Fault(self.at, READ, OFF)
+        self.at += 1
+        return "shared", self.one_of(ABSTRACT)
+
     def reference(self):
+        if self.peek() == 0x65:
+            return (True, *self.shared_heap())
         place = self.at
         byte = self.byte()
         if byte in (0x63, 0x64):
             return (byte == 0x63, *self.heap())
         if byte in ABSTRACT:
             return True, "abstract", byte
-        raise Fault(place, READ, OFF if byte == 0x65 else BAD)
+        raise Fault(place, READ, BAD)
 
     def value(self):
         return self.byte() if 0x7B <= self.peek() <= 0x7F else self.reference()
@@ -164,13 +174,16 @@ class SubType:
                 if self.above[-1] >= 1 << 20:
                     raise Fault(place, READ, PASSES)
             byte = reader.byte()
+        self.shared = byte == 0x65 and reader.shared
+        if self.shared:
+            byte = reader.byte()
         self.form = byte
         if byte == 0x60:
             self.lists = [[reader.value() for _ in range(reader.count(1000))] for _ in range(2)]
         elif byte in (0x5F, 0x5E):
             self.lists = [[self.field(reader) for _ in range(reader.count(10_000) if byte == 0x5F else 1)]]
         else:
-            raise Fault(reader.at - 1, READ, OFF if byte == 0x65 else BAD)
+            raise Fault(reader.at - 1, READ, OFF if byte == 0x65 and not reader.shared else BAD)
         values = [value for values in self.lists for value in values]
         self.names = self.above + [name for value in values for name in named(value[0] if byte != 0x60 else value)]
 
@@ -286,8 +299,8 @@ def immediate(reader, kind):
 
 
 class Module:
-    def __init__(self, data, stable=False, legacy=True):
-        self.data, self.operators = data, TABLES[stable, legacy]
+    def __init__(self, data, stable=False, legacy=True, shared=False):
+        self.data, self.operators, self.shared = data, TABLES[stable, legacy], shared
         self.types, self.functions, self.tables, self.memories, self.tags, self.globals = [], [], [], [], [], []
         self.elements, self.data_segments, self.imports, self.exports, self.bodies = [], [], [], [], []
         items = self.types, self.functions, self.tables, self.memories, self.tags, self.globals, self.elements, self.data_segments
@@ -300,7 +313,7 @@ class Module:
     def read(self):
         if self.data[:8] != b"\0asm\1\0\0\0":
             raise Fault(0, 2, "not a WebAssembly module")
-        reader, last = Reader(self.data, 8, len(self.data)), -1
+        reader, last = Reader(self.data, 8, len(self.data), self.shared), -1
         sections = {1: self.type_group, 2: self.import_entry, 3: self.function_entry, 4: self.table_entry, 5: self.memory_entry, 13: self.tag_entry}
         sections |= {6: self.global_entry, 7: self.export_entry, 9: self.element_entry, 10: self.code_entry, 11: self.data_entry}
         while reader.at < reader.end:
@@ -313,7 +326,7 @@ class Module:
             size = reader.u32()
             if size > reader.end - reader.at:
                 raise Fault(place, 4, "section size is wrong")
-            inner = Reader(self.data, reader.at, reader.at + size)
+            inner = Reader(self.data, reader.at, reader.at + size, self.shared)
             if section == 0:
                 inner.name()
                 inner.at = inner.end
@@ -388,6 +401,8 @@ class Module:
             due = self.full(sub.place, "type")
             if any(name >= end for name in sub.names):
                 due.append(outside(sub.place, "type"))
+            if sub.shared:
+                due.append(Fault(sub.place, UNSUPPORTED, "not supported: shared type"))
             first_of(due)
             self.types.append(sub)
 
@@ -601,7 +616,7 @@ class Module:
 
     def body(self, function, start, end):
         """The size of a body's normal form, and what it names."""
-        reader = Reader(self.data, start, end)
+        reader = Reader(self.data, start, end, self.shared)
         values = list(self.types[function].lists[0])
         for _ in range(reader.u32()):
             place = reader.at
@@ -727,8 +742,8 @@ class Frame:
         self.kind, self.dropped, self.cut, self.results = kind, dropped, False, results
 
 
-def inspect(data, stable=False, legacy=True, kept=False):
+def inspect(data, stable=False, legacy=True, kept=False, shared=False):
     if len(data) > 1 << 30:
         raise Fault(None, 22, "input is too long")
-    counts = Module(data, stable, legacy).counts(kept)
+    counts = Module(data, stable, legacy, shared).counts(kept)
     return "".join(f"{name}: {counts[name]}\n" for name in LINES)

@@ -28,7 +28,7 @@ def words(row, word):
 def answer(data, options):
     """The lines that tell what becomes of a module."""
     try:
-        lines = model.inspect(data, "stable" in options, "legacy" in options, True)
+        lines = model.inspect(data, "stable" in options, "legacy" in options, True, "shared" in options)
     except model.Fault as fault:
         return (f"refused {fault}",)
     kept, places = KEPT.get(data.hex(), (HEADER, "0"))

@@ -4,13 +4,12 @@
 #![tactic(auto)]
 
 mod failure;
-mod input;
 mod program;
 mod words;
 
 pub use failure::Failure;
-pub use input::{MAX_INPUT_LEN, read_all, read_input};
 pub use program::{Inspector, run_words, status, text_of};
+pub use program_parts::{MAX_INPUT_LEN, read_all, read_input};
 pub use words::{Job, job_of, words_of};
 
 // Passed on to crates above, which then list this one alone.

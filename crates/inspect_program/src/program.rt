@@ -5,11 +5,12 @@ ghost use Rattle.inspect_program.specs.Outcomes.{Tells};
 ghost use Rattle.walrus_config.specs.declared.config.ModuleConfig.{ModuleConfig};
 ghost use Rattle.walrus_errors.specs.declared.error.ModuleError.{ModuleError};
 
-use crate::{Failure, Job, job_of, read_input, words_of};
+use crate::{Failure, Job, job_of, words_of};
 use clap::Error;
 use clap::error::ErrorKind;
 use input_words::LONG_INPUT_LEN;
 use inspect_lines::{Counts, lines_of};
+use program_parts::read_input;
 use std::alloc::Global;
 use std::convert::AsStr;
 use std::rt::{Env, Files};

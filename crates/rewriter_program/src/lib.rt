@@ -5,15 +5,13 @@
 
 mod failure;
 mod input;
-mod new_file;
 mod output;
 mod program;
-mod target;
 mod words;
 
 pub use failure::Failure;
 pub use input::InputFile;
 pub use output::OutputFile;
 pub use program::{Targets, rewrite_files, run_words, status};
-pub use target::{FileId, Place, Target, locate};
+pub use program_parts::{FileId, Place, Target, locate};
 pub use words::{Job, Mistake, job_of, mistake_of, words_of};

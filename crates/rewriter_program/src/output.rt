@@ -4,12 +4,14 @@ ghost use Rattle.std.specs.Io.{WritesAtMost};
 ghost use Rattle.std.specs.Io.KnownBytes.{Keeps, WriteAppends};
 ghost use Rattle.wasm_rewriter.specs.Devices.{write_fails};
 
-use crate::new_file::NewFile;
-use crate::{Place, Target};
+use program_parts::{NewFile, Place, Target};
 use std::io::{ErrorKind, Write};
 use std::rt::Files;
 use std::{fs, io};
 use wasm_rewriter::{DeviceFailed, Sink};
+
+// What new files are called, in front of a number.
+const NEW_FILE: &str = ".wasm_rewriter";
 
 /// A sink over a target. What is there is opened, or a new file made, at the first write or flush. A new file takes its
 /// name at the flush, behind which nothing more can be written; it is removed where a call fails. The sink keeps what
@@ -61,7 +63,7 @@ impl<'a, R: Files + Print + AllocGlobal> OutputFile<'a, R> {
         Ok(match self.target {
             Target::Standard => Writer::Standard,
             Target::Direct(path) => Writer::Direct(fs::create(self.rt, path.as_str())?),
-            Target::Beside(place) => Writer::New(NewFile::create(self.rt, place)?, place),
+            Target::Beside(place) => Writer::New(NewFile::create(self.rt, place, NEW_FILE)?, place),
         })
     }
 

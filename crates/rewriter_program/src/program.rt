@@ -2,7 +2,6 @@
 ghost use Rattle.std.specs.Prelude.{◌≡◌, if◌then◌else◌};
 ghost use Rattle.wasm_rewriter.specs.Run.{tells_of_device};
 
-use crate::target::input_id;
 use crate::words::wrong_words;
 use crate::{
     Failure, FileId, InputFile, Job, Mistake, OutputFile, Target, job_of, locate, mistake_of,
@@ -11,6 +10,7 @@ use crate::{
 use clap::Error;
 use clap::error::ErrorKind;
 use input_words::TEXT_HINT;
+use program_parts::input_id;
 use std::convert::AsStr;
 use std::io;
 use std::rt::{Env, Files};

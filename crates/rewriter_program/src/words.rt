@@ -1,6 +1,6 @@
 // The program's words.
 ghost use Rattle.std.specs.Prelude.{◌≡◌, ◌↔◌, Some};
-ghost use Rattle.rewriter_program.specs.Files.{NamesOneFile};
+ghost use Rattle.program_parts.specs.Files.{NamesOneFile};
 
 use crate::FileId;
 use clap::error::ErrorKind;
@@ -91,6 +91,7 @@ pub fn job_of<'a, S: AsStr>(alloc: Global, words: &'a [S]) -> Result<Job<'a>, Er
     options.producers = !matches.get_flag("no-producers");
     options.only_stable_features = matches.get_flag("stable");
     options.legacy_exceptions = !matches.get_flag("no-legacy");
+    options.shared_types = matches.get_flag("shared-types");
     options.keep_segments = matches.get_flag("keep-segments");
     Ok(Job {
         input: required(&matches, "INPUT"),
@@ -125,6 +126,7 @@ fn command<'a>(alloc: Global) -> Result<Command<'a>, AllocError> {
         .arg(flag(alloc, "no-producers", "Write no `producers` section"))?
         .arg(flag(alloc, "stable", "Accept stable features alone"))?
         .arg(flag(alloc, "no-legacy", "Refuse legacy exception operators"))?
+        .arg(flag(alloc, "shared-types", "Accept shared abstract heap types"))?
         .arg(flag(
             alloc,
             "keep-segments",

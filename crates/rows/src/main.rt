@@ -3,7 +3,7 @@
 //! A line of that file is a word and what belongs to it:
 //!
 //!     row NAME            a row begins
-//!     with OPTIONS        the options that are on, of names, producers, places, stable, legacy and segments; without this line none
+//!     with OPTIONS        the options that are on, of names, producers, places, stable, legacy, shared and segments; without this line none
 //!     bytes COUNT HEX     the module goes on with these bytes, so many times
 //!     first FROM TO       what follows is said of each of its prefixes of these lengths, and not of the whole
 //!     output HEX          this is written

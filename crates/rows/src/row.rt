@@ -132,6 +132,7 @@ fn options_of(words: &str) -> Options {
         names: has(words, "names"),
         producers: has(words, "producers"),
         places: has(words, "places"),
+        shared_types: has(words, "shared"),
         keep_segments: has(words, "segments"),
     }
 }

@@ -1,3 +1,4 @@
 pub mod ArenaLemmas
+pub mod DenseLemmas
 pub mod LawLemmas
 pub mod SetLemmas

@@ -1,13 +1,8 @@
 -- What an arena ends as, where a `&mut` to one of its items is returned.
-use Rattle.std.specs.Prelude.{ℕ, Option, Some}
+use Rattle.std.specs.Prelude.{ℕ, Option}
 use Rattle.std.specs.Borrow.{Lends, LendsIf, Fml, RattleType, MutBor}
-use Rattle.std.specs.contracts.option.Option.{the_row as OptionOf}
 use Rattle.walrus_arena.specs.Arena.{Arena, with_item}
 use Rattle.walrus_arena.specs.contracts.arena.TombstoneArena.{the_row}
-
--- the slot ends with the last item written through r
-abbrev pub lends_slot : (T : RattleType) → MutBor (Option T.Denot) → MutBor T.Denot → Fml
-lends_slot T s r = Lends (OptionOf T) T s r Some
 
 module _ (T S : RattleType) (s : MutBor (Arena T.Denot)) (id : ℕ) where
   -- once the borrow r ends, the id has the last item written through r

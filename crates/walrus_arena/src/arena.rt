@@ -1,12 +1,13 @@
-//! The arena: slots by id, live or dead.
-ghost use Rattle.std.specs.Prelude.{◌≡◌, ◌+◌, ◌<◌, ◌≤◌, ◌↔◌, [], ◌∷◌, ◌++◌, IsTrue, IsSome, IfSome, IsOk, IfOk, OnOk, OnErr, Some, None, slice_set, option_copied};
+//! The arena: items by id, live or dead.
+ghost use Rattle.std.specs.Prelude.{◌≡◌, ◌+◌, ◌<◌, ◌≤◌, ◌↔◌, [], ◌∷◌, ◌++◌, IsTrue, IfSome, IsOk, IfOk, OnOk, OnErr, Some, None, slice_set, option_copied};
 ghost use Rattle.std.specs.Option.{option_copied_mut};
 ghost use Rattle.std.specs.Borrow.{sem};
 ghost use Rattle.walrus_arena.specs.Arena.{item_at, IsLive, next_id, live_count, entries, ids, IsTold};
-ghost use Rattle.walrus_arena.specs.Lends.{lends_get, lends_item, lends_slot};
+ghost use Rattle.walrus_arena.specs.Lends.{lends_get, lends_item};
 
 use crate::id::Id;
 use crate::iter::{Ids, Iter};
+use crate::live::{item_in, last_id};
 use std::alloc::{AllocError, Global};
 use std::marker::{Model, PhantomData};
 use std::ops::{Index, IndexMut};
@@ -26,42 +27,31 @@ pub trait Tombstone {
 /// Finding, adding (as many times as were reserved for) and deleting take constant time.
 #[derive(Drop)]
 pub struct TombstoneArena<T, S> {
-    // By id, the item while it lives.
-    items: Vec<Option<T>>,
-    // How many items live.
-    live: usize,
+    // The live items with their ids, in no order.
+    live: Vec<(u32, T)>,
+    // By id, the place of its item in `live`, or `NOWHERE` where it is dead.
+    index: Vec<u32>,
     space: PhantomData<S>,
 }
 
+// The place of an id whose item is dead: past the end of each list of live items, as fewer ids are given out.
+const NOWHERE: u32 = u32::MAX;
+
 impl<T, S> Model for TombstoneArena<T, S> {
-    ghost use Rattle.std.specs.Prelude.{◌≡◌, ◌-◌, ◌<◌, ◌^◌, min, count_by, is_some, vec_len, vec_capacity};
+    ghost use Rattle.std.specs.Prelude.{◌-◌, ◌^◌, min, vec_len, vec_capacity};
     ghost use Rattle.walrus_arena.specs.Arena.{Arena, arena_code};
+    ghost use Rattle.walrus_arena.specs.Dense.{slots_of, IsDense};
 
     ghost Value = { Arena T };
 
     ghost coded = { arena_code T.code };
 
     ghost view = { λ a. record {
-      slots = a.items.items;
-      room = min (vec_capacity a.items) (2 ^ 32 - 1) - vec_len a.items;
+      slots = slots_of a.live.items a.index.items;
+      room = min (min (vec_capacity a.index) (2 ^ 32 - 1) - vec_len a.index) (vec_capacity a.live - vec_len a.live);
     } };
 
-    ghost invariant = { λ a. record {
-      counted : a.live ≡ count_by is_some a.items.items;
-      fits : vec_len a.items < 2 ^ 32;
-    } };
-}
-
-// The item of a slot that holds one, for writing.
-fn item_of<T>(slot: &mut Option<T>) -> &mut T
-    requires { IsSome slot.old }
-    ensures* lends { sem 𝓛 (lends_slot T.row slot.entry result) }
-    ensures value { slot.old ≡ Some result.now }
-{
-    match slot {
-        Some(item) => item,
-        None => unreachable!(),
-    }
+    ghost invariant = { λ a. IsDense a.live.items a.index.items };
 }
 
 impl<T, S> TombstoneArena<T, S> {
@@ -71,8 +61,8 @@ impl<T, S> TombstoneArena<T, S> {
         ensures room { result.room ≡ 0 }
     {
         TombstoneArena {
-            items: Vec::new(alloc),
-            live: 0,
+            live: Vec::new(alloc),
+            index: Vec::new(alloc),
             space: PhantomData,
         }
     }
@@ -89,10 +79,11 @@ impl<T, S> TombstoneArena<T, S> {
         ensures succeeds { additional ≤ self.old.room → IsOk result }
         ensures refused { OnErr result (self.new.room < additional) }
     {
-        if additional > u32::MAX as usize - self.items.len() {
+        if additional > u32::MAX as usize - self.index.len() {
             return Err(AllocError);
         }
-        self.items.reserve(additional)
+        self.index.reserve(additional)?;
+        self.live.reserve(additional)
     }
 
     /// Adds an item and gives its id.
@@ -141,10 +132,10 @@ impl<T, S> TombstoneArena<T, S> {
         ensures added { self.new.slots ≡ self.old.slots ++ Some item ∷ [] }
         ensures room { self.new.room + 1 ≡ self.old.room }
     {
-        let id = Id::from_index(self.items.len());
-        self.live += 1;
-        self.items.push_reserved(Some(item));
-        id
+        let id = self.index.len();
+        self.index.push_reserved(self.live.len() as u32);
+        self.live.push_reserved((id as u32, item));
+        Id::from_index(id)
     }
 
     /// Deletes the item of a live id: it is told so by `on_delete`, and dropped. The id stays dead.
@@ -156,19 +147,33 @@ impl<T, S> TombstoneArena<T, S> {
         ensures told { IfSome (item_at self.old id) (IsTold T.told) }
         ensures room { self.old.room ≤ self.new.room }
     {
-        if let Some(mut item) = self.items[id.index()].take() {
-            self.live -= 1;
-            item.on_delete();
-        }
+        let mut item = self.take(id);
+        item.on_delete();
+    }
+
+    /// Hands out the item of a live id, which is not told that it is deleted. The id stays dead. Takes no memory.
+    pub fn take(&mut self, id: Id<S>) -> T
+        requires { IsLive self.old id }
+        ensures item { item_at self.old id ≡ Some result }
+        ensures deleted { self.new.slots ≡ slice_set self.old.slots id None }
+        ensures room { self.old.room ≤ self.new.room }
+    {
+        let id = id.index();
+        let place = self.index[id];
+        let moved = last_id(self.live.as_slice()) as usize;
+        self.index[moved] = place;
+        self.index[id] = NOWHERE;
+        let (_, item) = self.live.swap_remove(place as usize);
+        item
     }
 
     /// The item of an id, or `None` where it is dead or was never given out.
     pub fn get(&self, id: Id<S>) -> Option<&T>
         ensures { option_copied result ≡ item_at self.now id }
     {
-        match self.items.get(id.index()) {
-            Some(Some(item)) => Some(item),
-            _ => None,
+        match self.index.get(id.index()) {
+            Some(place) => item_in(self.live.as_slice(), *place),
+            None => None,
         }
     }
 
@@ -190,21 +195,23 @@ impl<T, S> TombstoneArena<T, S> {
         ensures* writes_back { sem 𝓛 (lends_item T.row S.row self.entry index result) }
         ensures value { item_at self.old index ≡ Some result.now }
     {
-        item_of(&mut self.items[index])
+        let place = self.index[index] as usize;
+        let pair = &mut self.live[place];
+        &mut pair.1
     }
 
     /// The id that the next add gives out.
     pub fn next_id(&self) -> Id<S>
         ensures { result ≡ next_id self.now }
     {
-        Id::from_index(self.items.len())
+        Id::from_index(self.index.len())
     }
 
     /// How many items live.
     pub fn len(&self) -> usize
         ensures { result ≡ live_count self.now }
     {
-        self.live
+        self.live.len()
     }
 
     /// Whether the id's item lives.
@@ -218,7 +225,7 @@ impl<T, S> TombstoneArena<T, S> {
     pub fn iter(&self) -> Iter<'_, T, S>
         ensures { result ≡ entries self.now }
     {
-        Iter::new(self.items.as_slice())
+        Iter::new(self.live.as_slice(), self.index.as_slice())
     }
 
     /// The live ids, by rising id.

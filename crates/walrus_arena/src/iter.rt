@@ -2,16 +2,20 @@
 ghost use Rattle.std.specs.Prelude.{◌≡◌, ◌+◌, ◌<◌, ◌^◌, map, length};
 ghost use Rattle.std.specs.Iterator.{YieldsFirst, YieldsFirstBy, item_count};
 ghost use Rattle.walrus_arena.specs.Arena.{entries_from};
+ghost use Rattle.walrus_arena.specs.Dense.{slots_of};
 
 use crate::id::Id;
+use crate::live::item_in;
 use std::marker::{Model, PhantomData};
 
 /// The live items of an arena with their ids, seen as the list of those that are left.
 #[derive(Drop)]
 pub struct Iter<'a, T, S> {
-    // The slots that are left.
-    items: &'a [Option<T>],
-    // The id of the first of `items`.
+    // The live items with their ids.
+    live: &'a [(u32, T)],
+    // By id, the place of its item in `live`, of the ids that are left.
+    index: &'a [u32],
+    // The first of these ids.
     next: usize,
     space: PhantomData<S>,
 }
@@ -19,22 +23,24 @@ pub struct Iter<'a, T, S> {
 impl<'a, T, S> Model for Iter<'a, T, S> {
     ghost use Rattle.std.specs.Prelude.{ℕ, List, ◌+◌, ◌<◌, ◌^◌, length};
     ghost use Rattle.walrus_arena.specs.Arena.{entries_from};
+    ghost use Rattle.walrus_arena.specs.Dense.{slots_of};
 
     ghost Value = { List (ℕ × T) };
 
-    ghost view = { λ it. entries_from it.next it.items.now };
+    ghost view = { λ it. entries_from it.next (slots_of it.live.now it.index.now) };
 
-    ghost invariant = { λ it. it.next + length it.items.now < 2 ^ 32 };
+    ghost invariant = { λ it. it.next + length it.index.now < 2 ^ 32 };
 }
 
 impl<'a, T, S> Iter<'a, T, S> {
-    // The items of these slots, the first of which has the id 0.
-    pub(crate) fn new(items: &'a [Option<T>]) -> Self
-        requires { length items.now < 2 ^ 32 }
-        ensures { result ≡ entries_from 0 items.now }
+    // The live items of an arena that keeps them so.
+    pub(crate) fn new(live: &'a [(u32, T)], index: &'a [u32]) -> Self
+        requires { length index.now < 2 ^ 32 }
+        ensures { result ≡ entries_from 0 (slots_of live.now index.now) }
     {
         Iter {
-            items,
+            live,
+            index,
             next: 0,
             space: PhantomData,
         }
@@ -49,11 +55,11 @@ impl<'a, T, S> Iterator for Iter<'a, T, S> {
     ghost remaining = { item_count (λ rest. rest) };
 
     fn next(&mut self) -> Option<(Id<S>, &'a T)> {
-        while let Some((slot, rest)) = self.items.split_first() {
+        while let Some((place, rest)) = self.index.split_first() {
             let id = self.next;
-            self.items = rest;
+            self.index = rest;
             self.next += 1;
-            if let Some(item) = slot {
+            if let Some(item) = item_in(self.live, *place) {
                 return Some((Id::from_index(id), item));
             }
         }

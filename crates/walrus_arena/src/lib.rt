@@ -1,10 +1,11 @@
-//! Arenas of live and dead slots: a list of items under ids, where no id is given out twice.
+//! Arenas: items under ids, live or dead, where no id is given out twice.
 #![tactic(auto)]
 
 mod arena;
 mod id;
 mod iter;
 pub mod laws;
+mod live;
 mod set;
 
 pub use arena::{Tombstone, TombstoneArena};

@@ -182,10 +182,7 @@ impl From<BodyError> for ModuleError {
             BodyError::Operator { offset } => ModuleError::Operator {
                 offset: place_of(offset),
             },
-            BodyError::Unsupported { form, offset } => ModuleError::Unsupported {
-                form,
-                offset: place_of(offset),
-            },
+            BodyError::Unsupported { form, offset } => ModuleError::Unsupported { form, offset },
             BodyError::Bounds { offset } => ModuleError::Bounds {
                 offset: place_of(offset),
             },

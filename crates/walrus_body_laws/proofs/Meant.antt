@@ -13,7 +13,7 @@ use Rattle.wasm_operators.specs.Operators.{Seen}
 use Rattle.wasm_normal_form.specs.Roles.{Placed, placed}
 use Rattle.wasm_operators.specs.Names.{Renaming, renamed_operator}
 use Rattle.walrus_forms.specs.declared.value.HeapType.{HeapType}
-use Rattle.walrus_forms.specs.declared.value.HeapType.TheVariants.{Abstract, Concrete, Exact}
+use Rattle.walrus_forms.specs.declared.value.HeapType.TheVariants.{Abstract, Shared, Concrete, Exact}
 use Rattle.walrus_forms.specs.declared.value.RefType.{RefType}
 use Rattle.walrus_forms.specs.declared.value.ValType.{ValType}
 use Rattle.walrus_forms.specs.declared.value.ValType.TheVariants.{I32, I64, F32, F64, V128, Ref}
@@ -43,6 +43,7 @@ use Rattle.walrus_body_laws.specs.EmissionLaws.{BodiesAreMeant, sent}
 
 heap_is : (ty : HeapType) → written_heap (all Types) ty ≡ Ok (own_heap ty)
 heap_is (Abstract ty) = refl
+heap_is (Shared ty) = refl
 heap_is (Concrete id) = refl
 heap_is (Exact id) = refl
 

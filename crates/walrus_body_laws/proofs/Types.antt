@@ -13,7 +13,7 @@ use Rattle.walrus_pairing.specs.wasm_operators.declared.block_type.BlockType.The
 use Rattle.walrus_pairing.specs.wasm_operators.Items.{Types}
 use Rattle.walrus_walks.specs.walrus_forms.declared.value.AbstractHeapType.{AbstractHeapType}
 use Rattle.walrus_walks.specs.walrus_forms.declared.value.HeapType.{HeapType}
-use Rattle.walrus_walks.specs.walrus_forms.declared.value.HeapType.TheVariants.{Abstract, Concrete, Exact}
+use Rattle.walrus_walks.specs.walrus_forms.declared.value.HeapType.TheVariants.{Abstract, Shared, Concrete, Exact}
 use Rattle.walrus_walks.specs.walrus_forms.declared.value.RefType.{RefType}
 use Rattle.walrus_walks.specs.walrus_forms.declared.value.ValType.{ValType}
 use Rattle.walrus_walks.specs.walrus_forms.declared.value.ValType.TheVariants.{I32, I64, F32, F64, V128, Ref}
@@ -59,17 +59,17 @@ module _ (s : Sight) (Good : Item → Type 0) (answers : AnswersAre s Good) wher
   abbrev Refers : HeapType → Type 0
   Refers h = (nullable : Bool) → T (ref_names (reference nullable h))
 
-  of_abstract : (o : Or AbstractHeapType) (h : HeapType) → (o >>= λ kind. Ok (Abstract kind)) ≡ Ok h → Refers h
-  of_abstract (Ok kind) h e = subst Refers (ok_is (Abstract kind) h e) (λ nullable. tt)
-  of_abstract (Err x) h e = absurd cc
+  of_abstract : (make : AbstractHeapType → HeapType) → ((kind : AbstractHeapType) → Refers (make kind)) → (o : Or AbstractHeapType) (h : HeapType) → (o >>= λ kind. Ok (make kind)) ≡ Ok h → Refers h
+  of_abstract make silent (Ok kind) h e = subst Refers (ok_is (make kind) h e) (silent kind)
+  of_abstract make silent (Err x) h e = absurd cc
 
   of_index : (make : ℕ → HeapType) → ((id : ℕ) → Good (item spaces.Type id) → Refers (make id)) → (w : UnpackedIndex) (o : Or ℕ) (h : HeapType) → read_index (look s Types) w ≡ o → (o >>= λ id. Ok (make id)) ≡ Ok h → Refers h
   of_index make named w (Ok id) h is e = subst Refers (ok_is (make id) h e) (named id (index_good w id is))
   of_index make named w (Err x) h is e = absurd cc
 
   pub heap_told : (w : WrittenHeap) (h : HeapType) → read_heap (look s Types) w ≡ Ok h → (nullable : Bool) → T (ref_names (reference nullable h))
-  heap_told (WAbstract true ty) h e = absurd cc
-  heap_told (WAbstract false ty) h e = of_abstract (read_abstract ty) h e
+  heap_told (WAbstract false ty) h e = of_abstract (λ kind. Abstract kind) (λ kind nullable. tt) (read_abstract ty) h e
+  heap_told (WAbstract true ty) h e = of_abstract (λ kind. Shared kind) (λ kind nullable. tt) (read_abstract ty) h e
   heap_told (WConcrete index) h e = of_index (λ id. Concrete id) (λ id g nullable. ((g, tt), tt)) index (read_index (look s Types) index) h refl e
   heap_told (WExact index) h e = of_index (λ id. Exact id) (λ id g nullable. ((g, tt), tt)) index (read_index (look s Types) index) h refl e
 

@@ -1,6 +1,6 @@
 -- Lemmas: value types of a file.
 use Rattle.std.proofs.Common.{ℕ, ◌≡◌, ◌==◌, ◌+◌, ◌-◌, nat_lt, Bool, true, false, pos, negsuc, ℤ, List, length, Some, Result, Ok, Err, if◌then◌else◌, refl, ap, sym, subst, inl, inr, ◌∙◌, arith}
-use Rattle.std.specs.Prelude.{slice_get, slice_index}
+use Rattle.std.specs.Prelude.{◌⊎◌, None, slice_get, slice_index}
 use Rattle.std.specs.Option.{is_some}
 use Rattle.std.proofs.lemmas.Bool.{lt-ltb, le-ltb}
 use Rattle.std.proofs.lemmas.Option.{slice_get_cases, get_or_from_slice_get}
@@ -23,14 +23,16 @@ use Rattle.wasm_formats.specs.declared.fault.Form.TheVariants as unsupported
 use Rattle.wasm_formats.specs.Stops.{Unsupported, stop, Stop, Parsing}
 use Rattle.wasm_formats.specs.Parts.{told_as}
 use Rattle.wasm_formats.specs.Joined.{tested}
-use Rattle.walrus_body_nesting.specs.wasm_grammar.TypeWords.{value_of}
+use Rattle.walrus_body_nesting.specs.wasm_grammar.TypeWords.{abstract_from, abstract_of, value_of}
 use Rattle.walrus_body_nesting.specs.wasm_grammar.Values.{value_type, named_below}
+use Rattle.walrus_forms.specs.declared.value.AbstractHeapType.{AbstractHeapType as OwnAbstract}
 use Rattle.walrus_forms.specs.declared.value.AbstractHeapType.TheVariants as words
 use Rattle.walrus_forms.specs.declared.value.HeapType.TheVariants as into
 use Rattle.walrus_forms.specs.declared.value.ValType.TheVariants.{I32, I64, F32, F64, V128, Ref}
 use Rattle.walrus_forms.specs.Values.{value_name}
 use Rattle.walrus_pairing.specs.declared.error.PairError.{PairError}
-use Rattle.walrus_pairing.specs.Types.{read_value}
+use Rattle.walrus_pairing.specs.declared.error.PairError.TheVariants as errors
+use Rattle.walrus_pairing.specs.Types.{read_abstract, read_value}
 use Rattle.walrus_body_nesting.specs.walrus_body_env.declared.error.BodyError.{BodyError}
 use Rattle.walrus_body_nesting.specs.Faults.{fault_at}
 use Rattle.walrus_body_locals.specs.Calls.{Answers, Parses}
@@ -130,22 +132,42 @@ abbrev pub Agrees : List ℕ → Written → List ℕ → ℕ → Result ValType
 Agrees types x later left (Ok own) p = (ty : ValType) × (p ≡ Ok (ty, later)) × IsTypeOf types (x, own) ty
 Agrees types x later left (Err e) p = p ≡ Err (stop (trouble_of e) left)
 
+-- an abstract type is read as the type that is told; that of continuations is neither
+abstract_told : (ty : AbstractHeapType) → ((kind : OwnAbstract) × (read_abstract ty ≡ Ok kind) × (abstract_of ty ≡ Some kind) × (ty ≡ abstract_from kind)) ⊎ ((read_abstract ty ≡ Err errors.ContinuationType) × (abstract_of ty ≡ None))
+abstract_told from.Func = inl (words.Func, refl, refl, refl)
+abstract_told from.Extern = inl (words.Extern, refl, refl, refl)
+abstract_told from.Any = inl (words.Any, refl, refl, refl)
+abstract_told from.None = inl (words.None, refl, refl, refl)
+abstract_told from.NoExtern = inl (words.NoExtern, refl, refl, refl)
+abstract_told from.NoFunc = inl (words.NoFunc, refl, refl, refl)
+abstract_told from.Eq = inl (words.Eq, refl, refl, refl)
+abstract_told from.Struct = inl (words.Struct, refl, refl, refl)
+abstract_told from.Array = inl (words.Array, refl, refl, refl)
+abstract_told from.I31 = inl (words.I31, refl, refl, refl)
+abstract_told from.Exn = inl (words.Exn, refl, refl, refl)
+abstract_told from.NoExn = inl (words.NoExn, refl, refl, refl)
+abstract_told from.Cont = inr (refl, refl)
+abstract_told from.NoCont = inr (refl, refl)
+
 abstract_agrees : (types : List ℕ) (nullable : Bool) (ty : AbstractHeapType) (later : List ℕ) (left : ℕ)
     → (let x = values.Ref (reference nullable (heaps.Abstract false ty)) in Agrees types x later left (read_value (slice_get types) x) (parsed_from (length types) x later left))
-abstract_agrees types nullable from.Func later left = (Ref (record { nullable = nullable; heap_type = into.Abstract words.Func }), refl, (refl, refl))
-abstract_agrees types nullable from.Extern later left = (Ref (record { nullable = nullable; heap_type = into.Abstract words.Extern }), refl, (refl, refl))
-abstract_agrees types nullable from.Any later left = (Ref (record { nullable = nullable; heap_type = into.Abstract words.Any }), refl, (refl, refl))
-abstract_agrees types nullable from.None later left = (Ref (record { nullable = nullable; heap_type = into.Abstract words.None }), refl, (refl, refl))
-abstract_agrees types nullable from.NoExtern later left = (Ref (record { nullable = nullable; heap_type = into.Abstract words.NoExtern }), refl, (refl, refl))
-abstract_agrees types nullable from.NoFunc later left = (Ref (record { nullable = nullable; heap_type = into.Abstract words.NoFunc }), refl, (refl, refl))
-abstract_agrees types nullable from.Eq later left = (Ref (record { nullable = nullable; heap_type = into.Abstract words.Eq }), refl, (refl, refl))
-abstract_agrees types nullable from.Struct later left = (Ref (record { nullable = nullable; heap_type = into.Abstract words.Struct }), refl, (refl, refl))
-abstract_agrees types nullable from.Array later left = (Ref (record { nullable = nullable; heap_type = into.Abstract words.Array }), refl, (refl, refl))
-abstract_agrees types nullable from.I31 later left = (Ref (record { nullable = nullable; heap_type = into.Abstract words.I31 }), refl, (refl, refl))
-abstract_agrees types nullable from.Exn later left = (Ref (record { nullable = nullable; heap_type = into.Abstract words.Exn }), refl, (refl, refl))
-abstract_agrees types nullable from.NoExn later left = (Ref (record { nullable = nullable; heap_type = into.Abstract words.NoExn }), refl, (refl, refl))
-abstract_agrees types nullable from.Cont later left = refl
-abstract_agrees types nullable from.NoCont later left = refl
+abstract_agrees types nullable ty later left =
+    let x = values.Ref (reference nullable (heaps.Abstract false ty)) in
+    elim (abstract_told ty) as (λ _. Agrees types x later left (read_value (slice_get types) x) (parsed_from (length types) x later left)) [
+      | inl k ↦ rw (k.1, k.2)
+          (Ref (record { nullable = nullable; heap_type = into.Abstract k.0 }), refl, (ap (λ (a : AbstractHeapType). values.Ref (reference nullable (heaps.Abstract false a))) k.3, refl))
+      | inr k ↦ rw (k.0, k.1) refl
+    ]
+
+shared_agrees : (types : List ℕ) (nullable : Bool) (ty : AbstractHeapType) (later : List ℕ) (left : ℕ)
+    → (let x = values.Ref (reference nullable (heaps.Abstract true ty)) in Agrees types x later left (read_value (slice_get types) x) (parsed_from (length types) x later left))
+shared_agrees types nullable ty later left =
+    let x = values.Ref (reference nullable (heaps.Abstract true ty)) in
+    elim (abstract_told ty) as (λ _. Agrees types x later left (read_value (slice_get types) x) (parsed_from (length types) x later left)) [
+      | inl k ↦ rw (k.1, k.2)
+          (Ref (record { nullable = nullable; heap_type = into.Shared k.0 }), refl, (ap (λ (a : AbstractHeapType). values.Ref (reference nullable (heaps.Abstract true a))) k.3, refl))
+      | inr k ↦ rw (k.0, k.1) refl
+    ]
 
 index_agrees : (types : List ℕ) (nullable : Bool) (n : ℕ) (later : List ℕ) (left : ℕ)
     → (let x = values.Ref (reference nullable (heaps.Concrete (Module n))) in Agrees types x later left (read_value (slice_get types) x) (parsed_from (length types) x later left))
@@ -172,7 +194,7 @@ value_agrees types (values.Ref r) later left h = go r.nullable r.heap_type h
   where
     go : (nullable : Bool) (heap : ReadHeap) → IsHeapIn heap → (let x = values.Ref (reference nullable heap) in Agrees types x later left (read_value (slice_get types) x) (parsed_from (length types) x later left))
     go nullable (heaps.Abstract false ty) h = abstract_agrees types nullable ty later left
-    go nullable (heaps.Abstract true ty) h = refl
+    go nullable (heaps.Abstract true ty) h = shared_agrees types nullable ty later left
     go nullable (heaps.Concrete (Module n)) h = index_agrees types nullable n later left
     go nullable (heaps.Concrete (RecGroup n)) h = absurd h
     go nullable (heaps.Concrete (Id n)) h = absurd h

@@ -26,8 +26,7 @@ fn type_fault(error: PairError, offset: u64) -> BodyError
             space: Space::Type,
             offset,
         },
-        PairError::SharedType
-        | PairError::ContinuationType
+        PairError::ContinuationType
         | PairError::Select
         | PairError::Alignment
         | PairError::TypeIndex
@@ -42,7 +41,7 @@ fn type_fault(error: PairError, offset: u64) -> BodyError
 ///
 /// # Errors
 ///
-/// As it is read; at its first byte `Unsupported` where it is shared, `Index` where it names no type.
+/// As it is read; at its first byte `Index` where it names no type.
 pub(crate) fn read_type(
     alloc: Global,
     reader: &mut BinaryReader<'_>,

@@ -15,15 +15,18 @@ use Rattle.wasm_operators.specs.Items.{Types}
 use Rattle.walrus_pairing.specs.wasm_operators.Names.{heap_names}
 use Rattle.wasm_formats.specs.declared.fault.Form.TheVariants as unsupported
 use Rattle.wasm_formats.specs.Stops.{Trouble, Unsupported}
-use Rattle.walrus_body_steps.specs.wasm_grammar.TypeWords.{heap_of}
+use Rattle.walrus_body_steps.specs.wasm_grammar.TypeWords.{abstract_of, heap_of}
 use Rattle.walrus_body_steps.specs.wasm_grammar.Values.{must, first_of}
+use Rattle.walrus_forms.specs.declared.value.AbstractHeapType.{AbstractHeapType as OwnAbstract}
+use Rattle.walrus_forms.specs.declared.value.AbstractHeapType.TheVariants as kinds
 use Rattle.walrus_forms.specs.declared.value.HeapType.{HeapType as OwnHeap}
 use Rattle.walrus_forms.specs.declared.value.RefType.{RefType}
 use Rattle.walrus_forms.specs.declared.value.ValType.{ValType as OwnValue}
 use Rattle.walrus_forms.specs.declared.value.ValType.TheVariants.{Ref as OwnRef}
 use Rattle.walrus_pairing.specs.declared.error.PairError.{PairError}
+use Rattle.walrus_pairing.specs.declared.error.PairError.TheVariants as pairs
 use Rattle.walrus_pairing.specs.Looks.{Or, ◌>>=◌}
-use Rattle.walrus_pairing.specs.Types.{read_heap, read_value}
+use Rattle.walrus_pairing.specs.Types.{read_abstract, read_heap, read_value}
 use Rattle.walrus_body_steps.specs.walrus_body_env.declared.error.BodyError.{BodyError}
 use Rattle.walrus_body_steps.specs.walrus_body_nesting.Faults.{Fails}
 use Rattle.walrus_body_steps.specs.walrus_body_rules.Sights.{Sight, look}
@@ -44,25 +47,34 @@ seen_in xs n = let c = slice_get_cases xs n in elim c.1 [
   | inr h ↦ inr (h.1, le-ltb n (length xs) h.0)
 ]
 
-abstract_told : (s : Sight) (ty : AbstractHeapType) → Told (heap_test s (Abstract false ty)) (read_heap (look s Types) (Abstract false ty))
-abstract_told s abstracts.Func = refl
-abstract_told s abstracts.Extern = refl
-abstract_told s abstracts.Any = refl
-abstract_told s abstracts.None = refl
-abstract_told s abstracts.NoExtern = refl
-abstract_told s abstracts.NoFunc = refl
-abstract_told s abstracts.Eq = refl
-abstract_told s abstracts.Struct = refl
-abstract_told s abstracts.Array = refl
-abstract_told s abstracts.I31 = refl
-abstract_told s abstracts.Exn = refl
-abstract_told s abstracts.NoExn = refl
-abstract_told s abstracts.Cont = λ offset. refl
-abstract_told s abstracts.NoCont = λ offset. refl
+-- an abstract type is read as the type that is told; that of continuations is neither
+abstract_told : (ty : AbstractHeapType) → ((kind : OwnAbstract) × (read_abstract ty ≡ Ok kind) × (abstract_of ty ≡ Some kind)) ⊎ ((read_abstract ty ≡ Err pairs.ContinuationType) × (abstract_of ty ≡ None))
+abstract_told abstracts.Func = inl (kinds.Func, refl, refl)
+abstract_told abstracts.Extern = inl (kinds.Extern, refl, refl)
+abstract_told abstracts.Any = inl (kinds.Any, refl, refl)
+abstract_told abstracts.None = inl (kinds.None, refl, refl)
+abstract_told abstracts.NoExtern = inl (kinds.NoExtern, refl, refl)
+abstract_told abstracts.NoFunc = inl (kinds.NoFunc, refl, refl)
+abstract_told abstracts.Eq = inl (kinds.Eq, refl, refl)
+abstract_told abstracts.Struct = inl (kinds.Struct, refl, refl)
+abstract_told abstracts.Array = inl (kinds.Array, refl, refl)
+abstract_told abstracts.I31 = inl (kinds.I31, refl, refl)
+abstract_told abstracts.Exn = inl (kinds.Exn, refl, refl)
+abstract_told abstracts.NoExn = inl (kinds.NoExn, refl, refl)
+abstract_told abstracts.Cont = inr (refl, refl)
+abstract_told abstracts.NoCont = inr (refl, refl)
 
 heap_told : (s : Sight) (ty : HeapType) → is_filed ty ≡ true → Told (heap_test s ty) (read_heap (look s Types) ty)
-heap_told s (Abstract true ty) filed = λ offset. refl
-heap_told s (Abstract false ty) filed = abstract_told s ty
+heap_told s (Abstract false ty) filed =
+    elim (abstract_told ty) as (λ _. Told (heap_test s (Abstract false ty)) (read_heap (look s Types) (Abstract false ty))) [
+      | inl h ↦ rw (h.1, h.2) refl
+      | inr h ↦ rw (h.0, h.1) (λ offset. refl)
+    ]
+heap_told s (Abstract true ty) filed =
+    elim (abstract_told ty) as (λ _. Told (heap_test s (Abstract true ty)) (read_heap (look s Types) (Abstract true ty))) [
+      | inl h ↦ rw (h.1, h.2) refl
+      | inr h ↦ rw (h.0, h.1) (λ offset. refl)
+    ]
 heap_told s (Concrete (Module n)) filed =
     elim (seen_in s.ids.types n) as (λ _. Told (heap_test s (Concrete (Module n))) (read_heap (look s Types) (Concrete (Module n)))) [
       | inl h ↦ rw (h.1, h.2) refl
@@ -114,6 +126,9 @@ value_refused s ty e offset b filed is same = refused (value_test s ty) (read_va
 
 pub passed : {A : Type 0} (t : Option Trouble) (r : Or A) (x : A) → Told t r → r ≡ Ok x → t ≡ None
 passed t r x told is = subst (Told t) is told
+
+pub heap_passed : (s : Sight) (ty : HeapType) (own : OwnHeap) → is_filed ty ≡ true → read_heap (look s Types) ty ≡ Ok own → heap_test s ty ≡ None
+heap_passed s ty own filed is = passed (heap_test s ty) (read_heap (look s Types) ty) own (heap_told s ty filed) is
 
 pub value_passed : (s : Sight) (ty : ValType) (own : OwnValue) → is_filed_value ty ≡ true → read_value (look s Types) ty ≡ Ok own → value_test s ty ≡ None
 value_passed s ty own filed is = passed (value_test s ty) (read_value (look s Types) ty) own (value_told s ty filed) is

@@ -67,7 +67,6 @@ space_in mapped.Label = spaces.Label
 -- reading wants no memory and writes no type
 abbrev pub pair_fault : PairError → ℕ → BodyError
 pair_fault (pairs.Unknown space) offset = faults.Index (space_in space) (Some offset)
-pair_fault pairs.SharedType offset = faults.Unsupported unsupported.SharedType (Some offset)
 pair_fault pairs.ContinuationType offset = faults.Unsupported unsupported.SharedType (Some offset)
 pair_fault pairs.Select offset = faults.Unsupported unsupported.Select (Some offset)
 pair_fault pairs.Alignment offset = faults.Bounds (Some offset)

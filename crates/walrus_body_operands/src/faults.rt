@@ -51,9 +51,7 @@ pub(crate) fn fault_of(error: PairError, offset: u64) -> BodyError
 {
     match error {
         PairError::Unknown(space) => no_item(space_of(space), offset),
-        PairError::SharedType | PairError::ContinuationType => {
-            unsupported(Form::SharedType, offset)
-        }
+        PairError::ContinuationType => unsupported(Form::SharedType, offset),
         PairError::Select => unsupported(Form::Select, offset),
         PairError::Alignment => BodyError::Bounds {
             offset: Some(offset),

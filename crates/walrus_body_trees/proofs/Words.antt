@@ -15,7 +15,7 @@ use Rattle.walrus_meaning.specs.walrus_local_function.walrus_body_locals.wasm_bo
 use Rattle.wasm_operators.specs.Ranges.{OperatorFits}
 use Rattle.walrus_meaning.specs.walrus_local_function.walrus_body_locals.wasm_normal_form.Normal.{picked, with_pick}
 use Rattle.walrus_meaning.specs.walrus_body_writer.walrus_pairing.walrus_forms.declared.value.HeapType.{HeapType}
-use Rattle.walrus_meaning.specs.walrus_body_writer.walrus_pairing.walrus_forms.declared.value.HeapType.TheVariants.{Abstract, Concrete, Exact}
+use Rattle.walrus_meaning.specs.walrus_body_writer.walrus_pairing.walrus_forms.declared.value.HeapType.TheVariants.{Abstract, Shared, Concrete, Exact}
 use Rattle.walrus_meaning.specs.walrus_body_writer.walrus_body_env.walrus_instr.declared.instr.Instr.{Instr}
 use Rattle.walrus_meaning.specs.walrus_body_writer.walrus_body_env.walrus_instr.declared.instr.Instr.TheVariants as instrs
 use Rattle.walrus_meaning.specs.walrus_body_writer.walrus_body_env.walrus_instr.declared.instr.TryTableCatch.{TryTableCatch}
@@ -106,6 +106,7 @@ module _ (P : ℕ → Instr → Type 0) where
 
 heap_written : (h : HeapType) → written_heap (all Types) h ≡ Ok (own_heap h)
 heap_written (Abstract ty) = refl
+heap_written (Shared ty) = refl
 heap_written (Concrete id) = refl
 heap_written (Exact id) = refl
 

@@ -29,7 +29,6 @@ use Rattle.walrus_body_writer.specs.Refusals.{Gives, IsDue, IsLarge, IsRefusal, 
 -- where no number can be too great, any cause will do
 pub gives_more : {A : Type 0} (large : Type 0) (x : Or A) (e : PairError) → Gives ⊥ x (Err e) → Gives large x (Err e)
 gives_more large x (errors.Unknown s) h = h
-gives_more large x errors.SharedType h = h
 gives_more large x errors.ContinuationType h = h
 gives_more large x errors.Select h = h
 gives_more large x errors.Alignment h = h
@@ -89,7 +88,6 @@ unfolding operator_at
 select_answered look ty (Ok (Some o)) h = h
 select_answered look ty (Ok None) h = h
 select_answered look ty (Err (errors.Unknown s)) h = h
-select_answered look ty (Err errors.SharedType) h = h
 select_answered look ty (Err errors.ContinuationType) h = h
 select_answered look ty (Err errors.Select) h = h
 select_answered look ty (Err errors.Alignment) h = h
@@ -100,7 +98,6 @@ plain_answered : (x : Or (Option Seen)) (r : Result (Option Operator) PairError)
 plain_answered x (Ok (Some o)) h = h
 plain_answered x (Ok None) h = h
 plain_answered x (Err (errors.Unknown s)) h = h
-plain_answered x (Err errors.SharedType) h = h
 plain_answered x (Err errors.ContinuationType) h = h
 plain_answered x (Err errors.Select) h = h
 plain_answered x (Err errors.Alignment) h = h
@@ -136,7 +133,6 @@ wants look b all front back old out parts wrote = record { front = front; back =
 
 pub refusal : (look : Look) (b : List InstrSeq) (old : Output) → IsTree b 0 → (e : PairError) (new : Output) → LeavesOff look b (operators b 0) old e new → IsRefusal look b old (fault_of e) new
 refusal look b old tree (errors.Unknown s) new h = (tree, errors.Unknown s, refl, h)
-refusal look b old tree errors.SharedType new h = (tree, errors.SharedType, refl, h)
 refusal look b old tree errors.ContinuationType new h = (tree, errors.ContinuationType, refl, h)
 refusal look b old tree errors.Select new h = (tree, errors.Select, refl, h)
 refusal look b old tree errors.Alignment new h = (tree, errors.Alignment, refl, h)
@@ -145,7 +141,6 @@ refusal look b old tree errors.Memory new h = h
 
 pub straight_refusal : (look : Look) (b : List InstrSeq) (old : Output) → IsTree b 0 → (e : PairError) (new : Output) → LeavesOff look b (operators b 0) old e new → IsStraightRefusal look b old (fault_of e) new
 straight_refusal look b old tree (errors.Unknown s) new h = (tree, errors.Unknown s, refl, h)
-straight_refusal look b old tree errors.SharedType new h = (tree, errors.SharedType, refl, h)
 straight_refusal look b old tree errors.ContinuationType new h = (tree, errors.ContinuationType, refl, h)
 straight_refusal look b old tree errors.Select new h = (tree, errors.Select, refl, h)
 straight_refusal look b old tree errors.Alignment new h = (tree, errors.Alignment, refl, h)

@@ -85,7 +85,6 @@ is_access look code memory n arg old new e h =
 -- the beginning of a block: of a type that has its numbers, or none
 bound : {A B : Type 0} (large : Type 0) (x : Or A) (f : A → Or B) (e : PairError) → Gives large x (Err e) → Gives large (x >>= f) (Err e)
 bound large x f (errors.Unknown s) h = ap (λ z. z >>= f) h
-bound large x f errors.SharedType h = ap (λ z. z >>= f) h
 bound large x f errors.ContinuationType h = ap (λ z. z >>= f) h
 bound large x f errors.Select h = ap (λ z. z >>= f) h
 bound large x f errors.Alignment h = ap (λ z. z >>= f) h

@@ -88,7 +88,6 @@ space_of words.Label = spaces.Label
 -- an id without a number is an index that names nothing; a type's number of more than 20 bits passes the limit on types
 abbrev pub fault_of : PairError → BodyError
 fault_of (errors.Unknown space) = faults.Index (space_of space) None
-fault_of errors.SharedType = faults.Unsupported forms.SharedType None
 fault_of errors.ContinuationType = faults.Unsupported forms.ContinuationType None
 fault_of errors.Select = faults.Unsupported forms.Select None
 fault_of errors.Alignment = faults.Bounds None

@@ -35,10 +35,6 @@ pub fn fault_of(error: PairError) -> BodyError
             space: space_of(space),
             offset,
         },
-        PairError::SharedType => BodyError::Unsupported {
-            form: Form::SharedType,
-            offset,
-        },
         PairError::ContinuationType => BodyError::Unsupported {
             form: Form::ContinuationType,
             offset,

@@ -8,6 +8,7 @@ mod records;
 mod rows;
 mod steps;
 mod tables;
+mod unmarked;
 mod values;
 mod words;
 mod writing;

@@ -1,6 +1,6 @@
 -- The flags of a module: what they are at first, and which features are read under them.
 use Rattle.std.specs.Prelude.{true, false, List, [], ◌∷◌, ◌++◌, if◌then◌else◌}
-use Rattle.wasm_features.specs.Features.{Feature, LegacyExceptions, WideArithmetic}
+use Rattle.wasm_features.specs.Features.{Feature, LegacyExceptions, SharedEverythingThreads, WideArithmetic}
 use Rattle.wasm_features.specs.Sets.{default_names}
 use Rattle.walrus_config.specs.declared.config.ModuleConfig.{ModuleConfig}
 
@@ -15,11 +15,13 @@ default_config = record {
   only_stable_features = false;
   legacy_exceptions = true;
   preserve_code_transform = false;
+  shared_types = false;
   keep_segments = false;
 }
 
--- the default features, the legacy exceptions unless they are switched off, and wide arithmetic unless stable
--- features alone are wanted
+-- the default features, the legacy exceptions unless they are switched off, shared types where they are asked for, and wide
+-- arithmetic unless stable features alone are wanted
 abbrev pub feature_names : ModuleConfig → List Feature
 feature_names config =
-    (if config.only_stable_features then [] else WideArithmetic ∷ []) ++ ((if config.legacy_exceptions then LegacyExceptions ∷ [] else []) ++ default_names)
+    (if config.only_stable_features then [] else WideArithmetic ∷ []) ++ ((if config.shared_types then SharedEverythingThreads ∷ [] else [])
+    ++ ((if config.legacy_exceptions then LegacyExceptions ∷ [] else []) ++ default_names))

@@ -24,6 +24,8 @@ pub struct ModuleConfig {
     pub legacy_exceptions: bool,
     /// Whether it is kept where instructions stood and where they are written.
     pub preserve_code_transform: bool,
+    /// Whether shared abstract heap types are read.
+    pub shared_types: bool,
     /// Whether all active element segments are kept.
     pub keep_segments: bool,
 }
@@ -50,6 +52,7 @@ impl ModuleConfig {
             only_stable_features: false,
             legacy_exceptions: true,
             preserve_code_transform: false,
+            shared_types: false,
             keep_segments: false,
         }
     }
@@ -132,6 +135,15 @@ impl ModuleConfig {
         self
     }
 
+    /// Whether shared abstract heap types are read: the byte 65 before an abstract heap type.
+    pub fn shared_types(&mut self, enable: bool) -> &mut ModuleConfig
+        ensures same { result.ghost_name ≡ self.entry.ghost_name }
+        ensures set { result.now ≡ record self.old { shared_types = enable } }
+    {
+        self.shared_types = enable;
+        self
+    }
+
     /// Whether all active element segments are kept, each with its table: without it those alone whose table is imported or kept.
     pub fn keep_segments(&mut self, keep: bool) -> &mut ModuleConfig
         ensures same { result.ghost_name ≡ self.entry.ghost_name }
@@ -142,13 +154,16 @@ impl ModuleConfig {
     }
 
     /// The features of what is read: the default ones, with the legacy exceptions unless they are switched off,
-    /// and with wide arithmetic unless stable features alone are wanted.
+    /// with shared types where they are asked for, and with wide arithmetic unless stable features alone are wanted.
     pub fn features(&self) -> WasmFeatures
         ensures { result ≡ features_of (feature_names self.now) }
     {
         let mut features = WasmFeatures::default();
         if self.legacy_exceptions {
             features.insert(WasmFeatures::LEGACY_EXCEPTIONS);
+        }
+        if self.shared_types {
+            features.insert(WasmFeatures::SHARED_EVERYTHING_THREADS);
         }
         if !self.only_stable_features {
             features.insert(WasmFeatures::WIDE_ARITHMETIC);

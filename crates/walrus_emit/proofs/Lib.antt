@@ -3,3 +3,4 @@ pub mod ListLemmas
 pub mod DeclaredLemmas
 pub mod WholeLemmas
 pub mod WrittenLemmas
+pub mod Lasts

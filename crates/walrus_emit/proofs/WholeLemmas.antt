@@ -19,16 +19,13 @@ use Rattle.walrus_types.specs.walrus_forms.Records.{type_group}
 use Rattle.walrus_emit_numbers.specs.declared.facts.BodyFacts.{BodyFacts}
 use Rattle.walrus_emit_parts.specs.Due.{Due, IsTooMany, Lacks, Refused, Writes, written}
 use Rattle.walrus_emit_parts.proofs.Lemmas.{nothing, puts, refused_memory, writes_on, written_size}
-use Rattle.walrus_emit_uses.specs.FunctionTypes.{function_types}
-use Rattle.walrus_emit.specs.Settled.{AreEmitted, IsOrder}
+use Rattle.walrus_emit_due.specs.FunctionTypes.{function_types}
+use Rattle.walrus_emit.specs.Settled.{AreEmitted}
 use Rattle.walrus_emit.specs.Whole.{if_asked, types}
 use Rattle.walrus_emit.specs.Written.{WroteTypes}
 
 pub are_emitted : (t : Table) (types : EmittedTypes) → IsEmission t (map type_group types.groups.items) types.indices → AreInverse types.ids.items types.indices → AreEmitted t types
 are_emitted t types groups ids = record { groups = groups; ids = ids }
-
-pub is_order : (facts : List BodyFacts) (order : List ℕ) → IsPermutation (run_from 0 (length facts)) order → IsOrder facts order
-is_order facts order all = record { all = all }
 
 -- ---- one section
 

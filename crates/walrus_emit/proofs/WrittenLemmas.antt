@@ -13,12 +13,13 @@ use Rattle.walrus_sections.specs.declared.section.Section.{Section}
 use Rattle.walrus_types.specs.declared.emit.EmittedTypes.{EmittedTypes}
 use Rattle.walrus_emit_code.specs.declared.emission.Emission.{Emission}
 use Rattle.walrus_emit_numbers.specs.Facts.{AreFacts}
+use Rattle.walrus_emit_numbers.specs.Order.{IsOrder}
 use Rattle.walrus_emit_numbers.specs.Undeclared.{undeclared_of}
 use Rattle.walrus_emit_numbers.specs.declared.facts.BodyFacts.{BodyFacts}
 use Rattle.walrus_emit_parts.specs.Due.{Due, Writes, written}
 use Rattle.walrus_emit_parts.proofs.Lemmas.{writes_on}
 use Rattle.walrus_emit.specs.Left.{Declares}
-use Rattle.walrus_emit.specs.Settled.{AreEmitted, IsOrder}
+use Rattle.walrus_emit.specs.Settled.{AreEmitted}
 use Rattle.walrus_emit.specs.Whole.{first, header, numbers, sections, standard, whole, with_bodies}
 use Rattle.walrus_emit.specs.Written.{IsStandard, IsWritten}
 

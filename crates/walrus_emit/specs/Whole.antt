@@ -21,13 +21,13 @@ use Rattle.walrus_emit_customs.specs.Names.{names_due}
 use Rattle.walrus_emit_numbers.specs.Numbers.{functions_at, numbers_of}
 use Rattle.walrus_emit_numbers.specs.declared.facts.BodyFacts.{BodyFacts}
 use Rattle.walrus_emit_parts.specs.Due.{Due, limited, written}
-use Rattle.walrus_emit_sections.specs.Items as items
-use Rattle.walrus_emit_types.specs.Types.{type_section}
-use Rattle.walrus_emit_uses.specs.DataCount.{data_count}
-use Rattle.walrus_emit_uses.specs.Elements.{elements}
-use Rattle.walrus_emit_uses.specs.FunctionTypes.{function_types}
-use Rattle.walrus_emit_uses.specs.Imports.{imports}
-use Rattle.walrus_emit_uses.specs.Starts.{start}
+use Rattle.walrus_emit_due.specs.Items as items
+use Rattle.walrus_emit_due.specs.Types.{type_section}
+use Rattle.walrus_emit_due.specs.DataCount.{data_count}
+use Rattle.walrus_emit_due.specs.Elements.{elements}
+use Rattle.walrus_emit_due.specs.FunctionTypes.{function_types}
+use Rattle.walrus_emit_due.specs.Imports.{imports}
+use Rattle.walrus_emit_due.specs.Starts.{start}
 
 -- `\0asm`, and the version
 abbrev pub header : List ℕ

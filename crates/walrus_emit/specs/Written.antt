@@ -11,11 +11,12 @@ use Rattle.walrus_types.specs.Table.{Table}
 use Rattle.walrus_types.specs.declared.emit.EmittedTypes.{EmittedTypes}
 use Rattle.walrus_emit_code.specs.declared.emission.Emission.{Emission}
 use Rattle.walrus_emit_numbers.specs.Facts.{AreFacts}
+use Rattle.walrus_emit_numbers.specs.Order.{IsOrder}
 use Rattle.walrus_emit_numbers.specs.Undeclared.{undeclared_of}
 use Rattle.walrus_emit_numbers.specs.declared.facts.BodyFacts.{BodyFacts}
 use Rattle.walrus_emit_parts.specs.Due.{written}
 use Rattle.walrus_emit.specs.Left.{Declares}
-use Rattle.walrus_emit.specs.Settled.{AreEmitted, IsOrder}
+use Rattle.walrus_emit.specs.Settled.{AreEmitted}
 use Rattle.walrus_emit.specs.Whole.{numbers, standard, types, whole, with_bodies}
 
 -- the types of a table stand behind what was there

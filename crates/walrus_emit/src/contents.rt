@@ -14,7 +14,7 @@ ghost use Rattle.walrus_emit_code.specs.Code as code;
 ghost use Rattle.walrus_emit_numbers.specs.Numbers.{functions_at};
 ghost use Rattle.walrus_emit_numbers.specs.Order.{AreWithin};
 ghost use Rattle.walrus_emit_parts.specs.Due.{Writes, written};
-ghost use Rattle.walrus_emit_uses.specs.FunctionTypes.{function_types};
+ghost use Rattle.walrus_emit_due.specs.FunctionTypes.{function_types};
 ghost use Rattle.walrus_emit.specs.Whole as due;
 ghost use Rattle.walrus_emit_customs.specs.Names.{names_due};
 ghost use Rattle.std.specs.List.{list_any};

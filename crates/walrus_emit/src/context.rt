@@ -4,8 +4,8 @@ ghost use Rattle.wasm_formats.specs.declared.fault.Space.TheVariants as spaces;
 ghost use Rattle.walrus_errors.specs.declared.error.ModuleError.TheVariants as refusals;
 ghost use Rattle.walrus_index_maps.specs.Views.{indices};
 ghost use Rattle.walrus_emit_numbers.specs.Numbers.{functions_at, numbers_of};
-ghost use Rattle.walrus_emit_numbers.specs.Order.{AreWithin};
-ghost use Rattle.walrus_emit.specs.Settled.{AreEmitted, IsOrder};
+ghost use Rattle.walrus_emit_numbers.specs.Order.{AreWithin, IsOrder};
+ghost use Rattle.walrus_emit.specs.Settled.{AreEmitted};
 
 use std::alloc::Global;
 use walrus_emit_code::Emission;
@@ -63,7 +63,6 @@ impl<'a, B> EmitContext<'a, B> {
     /// # Errors
     ///
     /// `DeadReference` of a type, where a type names what isn't written, or a later one past its group; want of memory.
-    #[tactic(auto, using(crate::proofs::WholeLemmas::is_order))]
     pub fn new(alloc: Global, input: &'a Module<B>, facts: &'a [BodyFacts]) -> Result<Self>
         ensures module { IfOk result (λ cx. cx.«module».now ≡ input.now) }
         ensures facts { IfOk result (λ cx. cx.facts.now ≡ facts.now) }

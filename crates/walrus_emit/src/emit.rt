@@ -12,9 +12,9 @@ ghost use Rattle.walrus_payload_writers.specs.Producers.{producers_section};
 ghost use Rattle.walrus_emit_code.specs.Code as code;
 ghost use Rattle.walrus_emit_code.specs.Code.{bodies_numbers, facts_at};
 ghost use Rattle.walrus_emit_parts.specs.Due.{Writes, written};
-ghost use Rattle.walrus_emit_sections.specs.Items as items;
-ghost use Rattle.walrus_emit_uses.specs.Elements.{elements};
-ghost use Rattle.walrus_emit_uses.specs.Imports.{imports};
+ghost use Rattle.walrus_emit_due.specs.Items as items;
+ghost use Rattle.walrus_emit_due.specs.Elements.{elements};
+ghost use Rattle.walrus_emit_due.specs.Imports.{imports};
 ghost use Rattle.walrus_emit.specs.Written.{WroteTypes};
 
 use crate::context::{EmitContext, emitted_types};

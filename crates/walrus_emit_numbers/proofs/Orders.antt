@@ -1,13 +1,13 @@
 -- Positions, keys, and what a sort leaves of them.
 use Rattle.std.proofs.Common.{ℕ, zero, suc, ◌+◌, ◌<◌, ◌≤◌, ◌≡◌, List, [], ◌∷◌, ◌++◌, length, map, get_or, ◌-◌, ◌^◌, refl, ap, sym, ◌∙◌, subst, arith}
 use Rattle.std.specs.Prelude.{All}
-use Rattle.std.specs.List.Sorted.{IsPermutation}
+use Rattle.std.specs.List.Sorted.{IsPermutation, IsSorted}
 use Rattle.std.proofs.lemmas.List.{map-append}
 use Rattle.std.proofs.lemmas.List.Elements.{All-cons, All-nil}
 use Rattle.std.proofs.lemmas.List.Sorted.{All-permutation, IsPermutation-map}
 use Rattle.walrus_index_maps.specs.Runs.{run_from}
 use Rattle.walrus_emit_numbers.specs.declared.facts.BodyFacts.{BodyFacts}
-use Rattle.walrus_emit_numbers.specs.Order.{AreWithin, key_at}
+use Rattle.walrus_emit_numbers.specs.Order.{AreWithin, IsOrder, key_at, key_cmp}
 
 run_more : (first n : ℕ) → run_from first (suc n) ≡ run_from first n ++ (first + n) ∷ []
 run_more first zero = ap (λ (k : ℕ). k ∷ []) (omega arith)
@@ -47,7 +47,26 @@ keys_more facts keys at function body lt is same h =
     ∙ ap (λ (k : ℕ × ℕ × ℕ). map (key_at facts) (run_from 0 at) ++ k ∷ []) (key_is facts at body lt is)
     ∙ sym (ap (map (key_at facts)) (run_at at) ∙ map-append (key_at facts) (run_from 0 at) (at ∷ []))
 
+-- a key tells its position, and so itself
+abbrev IsKeyed : List BodyFacts → ℕ × ℕ × ℕ → Type 0
+IsKeyed facts key = key_at facts (position key) ≡ key
+
+keyed : (facts : List BodyFacts) (places : List ℕ) → All (IsKeyed facts) (map (key_at facts) places)
+keyed facts [] = All-nil (IsKeyed facts)
+keyed facts (p ∷ places) = All-cons (IsKeyed facts) (key_at facts p) (map (key_at facts) places) refl (keyed facts places)
+
+keys_again : (facts : List BodyFacts) (keys : List (ℕ × ℕ × ℕ)) → All (IsKeyed facts) keys → map (key_at facts) (map position keys) ≡ keys
+keys_again facts [] h = refl
+keys_again facts (k ∷ keys) h =
+    ap (λ (l : List (ℕ × ℕ × ℕ)). key_at facts (position k) ∷ l) (keys_again facts keys (λ i d lt. h (suc i) d (omega (arith, lt))))
+    ∙ ap (λ (key : ℕ × ℕ × ℕ). key ∷ keys) (h 0 k (omega arith))
+
 module _ (facts : List BodyFacts) (keys sorted : List (ℕ × ℕ × ℕ)) (order : List ℕ) (n : ℕ) where
+  pub order_sorted : keys ≡ map (key_at facts) (run_from 0 n) → IsPermutation keys sorted → IsSorted key_cmp sorted → order ≡ map position sorted → IsSorted key_cmp (map (key_at facts) order)
+  order_sorted are moved rises is =
+      let all : All (IsKeyed facts) sorted = All-permutation (IsKeyed facts) keys sorted moved (subst (λ (l : List (ℕ × ℕ × ℕ)). All (IsKeyed facts) l) (sym are) (keyed facts (run_from 0 n))) in
+      subst (λ (l : List (ℕ × ℕ × ℕ)). IsSorted key_cmp l) (sym (ap (map (key_at facts)) is ∙ keys_again facts sorted all)) rises
+
   pub order_moved : n ≡ length facts → keys ≡ map (key_at facts) (run_from 0 n) → IsPermutation keys sorted → order ≡ map position sorted → IsPermutation (run_from 0 (length facts)) order
   order_moved e are moved is =
       let before : map position keys ≡ run_from 0 (length facts) = ap (map position) are ∙ positions_of facts (run_from 0 n) ∙ ap (run_from 0) e in

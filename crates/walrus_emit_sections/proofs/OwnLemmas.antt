@@ -15,7 +15,8 @@ use Rattle.walrus_errors.specs.declared.error.ModuleError.{ModuleError}
 use Rattle.walrus_errors.specs.declared.error.ModuleError.TheVariants.{Memory, OutputLimit}
 use Rattle.walrus_emit_parts.specs.Due.{Due, IsTooMany, Lacks, Refused, Writes, entries, limited, number, section, sized, vec, written}
 use Rattle.walrus_emit_parts.proofs.Lemmas.{behind_it, limit_passed, nothing, put_before, refused_behind, refused_front, size_is, within, writes_on}
-use Rattle.walrus_emit_sections.specs.Own.{WroteSome, live, own_section}
+use Rattle.walrus_emit_sections.specs.Own.{WroteSome}
+use Rattle.walrus_emit_due.specs.Own.{live, own_section}
 
 module _ {A : Type 0} (is_own : A → Bool) (due : A → Due) where
   abbrev own_due : List A → Due

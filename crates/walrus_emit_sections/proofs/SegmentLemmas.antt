@@ -7,7 +7,7 @@ use Rattle.walrus_errors.specs.declared.error.ModuleError.TheVariants.{DeadRefer
 use Rattle.walrus_pairing.specs.Looks.{Look}
 use Rattle.walrus_emit_parts.specs.Due.{Refused}
 use Rattle.walrus_emit_parts.proofs.Lemmas.{lacks_it}
-use Rattle.walrus_emit_sections.specs.Items.{active}
+use Rattle.walrus_emit_due.specs.Items.{active}
 
 pub lacks_memory : (look : Look) (number : Option ℕ) (offset : Expr) (bytes old : List ℕ) → number ≡ None → Refused (active look number offset bytes) old old (DeadReference spaces.Memory)
 lacks_memory look number offset bytes old none =

@@ -1,20 +1,10 @@
--- A section whose entries stand for those items of a space that the module has itself.
-use Rattle.std.specs.Prelude.{ℕ, ◌+◌, ◌≡◌, ◌≤◌, ◌<◌, ◌⊎◌, Bool, List, [], ◌∷◌, ◌++◌, length, filter, Option, Some, None, Result, MatchResult}
+-- How a section is written whose entries stand for those items of a space that the module has itself.
+use Rattle.std.specs.Prelude.{ℕ, ◌+◌, ◌≡◌, ◌≤◌, ◌<◌, ◌⊎◌, Bool, List, ◌++◌, length, filter, Result, MatchResult}
 use Rattle.std.specs.List.{flat_map}
 use Rattle.wasm_formats.specs.declared.fault.Limited.{Limited}
 use Rattle.walrus_errors.specs.declared.error.ModuleError.{ModuleError}
 use Rattle.walrus_errors.specs.declared.error.ModuleError.TheVariants.{Memory, OutputLimit}
-use Rattle.walrus_emit_parts.specs.Due.{Due, Refused, entries, written}
-
--- what lives, by rising number
-abbrev pub live : {A : Type 0} → List (Option A) → List A
-live [] = []
-live (None ∷ slots) = live slots
-live (Some x ∷ slots) = x ∷ live slots
-
--- the entries of those that have one
-abbrev pub own_section : {A : Type 0} → ℕ → (A → Bool) → (A → Due) → List (Option A) → Due
-own_section id is_own due slots = entries id due (filter is_own (live slots))
+use Rattle.walrus_emit_parts.specs.Due.{Due, Refused, written}
 
 -- there are at most so many of these
 abbrev pub HasAtMost : ℕ → Limited → ℕ → Result (Unit {0}) ModuleError → Type 0

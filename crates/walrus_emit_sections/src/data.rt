@@ -6,7 +6,7 @@ ghost use Rattle.walrus_pairing.specs.Looks.{number_of};
 ghost use Rattle.walrus_item_meaning.specs.Meaning.{own_segment, slots_of};
 ghost use Rattle.walrus_module_items.specs.Words.{own_expr};
 ghost use Rattle.walrus_emit_parts.specs.Due.{Writes, number, text};
-ghost use Rattle.walrus_emit_sections.specs.Items.{active, contents, segment, segments};
+ghost use Rattle.walrus_emit_due.specs.Items.{active, contents, segment, segments};
 
 use crate::own::{OwnEntry, write_limited};
 use walrus_collections::ModuleData;
@@ -133,7 +133,7 @@ impl<'a> OwnEntry<Data> for Segments<'a> {
     ghost use Rattle.walrus_index_maps.specs.Views.{indices};
     ghost use Rattle.walrus_pairing.specs.Looks.{number_of};
     ghost use Rattle.walrus_item_meaning.specs.Meaning.{own_segment};
-    ghost use Rattle.walrus_emit_sections.specs.Items.{segment};
+    ghost use Rattle.walrus_emit_due.specs.Items.{segment};
 
     ghost Seen = { grammar.Segment };
 

@@ -4,7 +4,7 @@ ghost use Rattle.walrus_index_maps.specs.Views.{indices};
 ghost use Rattle.walrus_pairing.specs.Looks.{number_of};
 ghost use Rattle.walrus_item_meaning.specs.Meaning.{own_export, own_given, slots_of};
 ghost use Rattle.walrus_emit_parts.specs.Due.{Writes};
-ghost use Rattle.walrus_emit_sections.specs.Items.{export, exports, kind_index};
+ghost use Rattle.walrus_emit_due.specs.Items.{export, exports, kind_index};
 
 use crate::own::{OwnEntry, write_limited};
 use walrus_collections::ModuleExports;
@@ -64,7 +64,7 @@ impl<'a> OwnEntry<Export> for Exports<'a> {
     ghost use Rattle.walrus_index_maps.specs.Views.{indices};
     ghost use Rattle.walrus_pairing.specs.Looks.{number_of};
     ghost use Rattle.walrus_item_meaning.specs.Meaning.{own_export};
-    ghost use Rattle.walrus_emit_sections.specs.Items.{export};
+    ghost use Rattle.walrus_emit_due.specs.Items.{export};
 
     ghost Seen = { grammar.Export };
 

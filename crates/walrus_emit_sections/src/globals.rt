@@ -6,9 +6,9 @@ ghost use Rattle.walrus_pairing.specs.Looks.{number_of};
 ghost use Rattle.walrus_item_meaning.specs.Meaning.{own_global, slots_of};
 ghost use Rattle.walrus_module_items.specs.Words.{own_expr};
 ghost use Rattle.walrus_emit_parts.specs.Due.{Writes, written};
-ghost use Rattle.walrus_emit_values.specs.Values.{bit};
+ghost use Rattle.walrus_emit_due.specs.Values.{bit};
 ghost use Rattle.wasm_grammar.specs.Modules as grammar;
-ghost use Rattle.walrus_emit_sections.specs.Items.{global, global_of, global_type, globals};
+ghost use Rattle.walrus_emit_due.specs.Items.{global, global_of, global_type, globals};
 
 use crate::own::{OwnEntry, write_limited};
 use walrus_collections::ModuleGlobals;
@@ -72,7 +72,7 @@ impl<'a> OwnEntry<Global> for Globals<'a> {
     ghost use Rattle.walrus_index_maps.specs.Views.{indices};
     ghost use Rattle.walrus_pairing.specs.Looks.{number_of};
     ghost use Rattle.walrus_item_meaning.specs.Meaning.{own_global};
-    ghost use Rattle.walrus_emit_sections.specs.Items.{global, is_own};
+    ghost use Rattle.walrus_emit_due.specs.Items.{global, is_own};
 
     ghost Seen = { grammar.Global };
 

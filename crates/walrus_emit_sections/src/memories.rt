@@ -3,8 +3,8 @@
 ghost use Rattle.std.specs.Prelude.{◌≡◌};
 ghost use Rattle.walrus_item_meaning.specs.Meaning.{own_memory, slots_of};
 ghost use Rattle.walrus_emit_parts.specs.Due.{Writes};
-ghost use Rattle.walrus_emit_values.specs.Values.{optional};
-ghost use Rattle.walrus_emit_sections.specs.Items.{memories, memory, memory_flags};
+ghost use Rattle.walrus_emit_due.specs.Values.{optional};
+ghost use Rattle.walrus_emit_due.specs.Items.{memories, memory, memory_flags};
 
 use crate::own::{OwnEntry, write_limited};
 use walrus_collections::ModuleMemories;
@@ -60,7 +60,7 @@ impl OwnEntry<Memory> for Memories {
     ghost use Rattle.std.specs.Option.{is_none};
     ghost use Rattle.wasm_grammar.specs.Modules as grammar;
     ghost use Rattle.walrus_item_meaning.specs.Meaning.{own_memory};
-    ghost use Rattle.walrus_emit_sections.specs.Items.{memory};
+    ghost use Rattle.walrus_emit_due.specs.Items.{memory};
 
     ghost Seen = { grammar.Memory };
 

@@ -6,7 +6,8 @@ ghost use Rattle.walrus_errors.specs.declared.error.ModuleError.TheVariants.{Mem
 ghost use Rattle.walrus_collections.specs.LookUps.{items};
 ghost use Rattle.walrus_item_meaning.specs.Meaning.{slots_of};
 ghost use Rattle.walrus_emit_parts.specs.Due.{Due, Writes, limited};
-ghost use Rattle.walrus_emit_sections.specs.Own.{HasAtMost, WritesOwn, live, own_section};
+ghost use Rattle.walrus_emit_sections.specs.Own.{HasAtMost, WritesOwn};
+ghost use Rattle.walrus_emit_due.specs.Own.{live, own_section};
 
 use walrus_collections::Collection;
 use walrus_emit_parts::{put_front, write_byte};

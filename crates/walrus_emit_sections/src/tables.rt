@@ -6,8 +6,8 @@ ghost use Rattle.walrus_pairing.specs.Looks.{number_of};
 ghost use Rattle.walrus_item_meaning.specs.Meaning.{own_table, slots_of};
 ghost use Rattle.walrus_module_items.specs.Words.{own_expr};
 ghost use Rattle.walrus_emit_parts.specs.Due.{Writes};
-ghost use Rattle.walrus_emit_values.specs.Values.{expr};
-ghost use Rattle.walrus_emit_sections.specs.Items.{table, table_flags, table_of, table_type, tables};
+ghost use Rattle.walrus_emit_due.specs.Values.{expr};
+ghost use Rattle.walrus_emit_due.specs.Items.{table, table_flags, table_of, table_type, tables};
 
 use crate::own::{OwnEntry, write_limited};
 use walrus_collections::ModuleTables;
@@ -79,7 +79,7 @@ impl<'a> OwnEntry<Table> for Tables<'a> {
     ghost use Rattle.walrus_index_maps.specs.Views.{indices};
     ghost use Rattle.walrus_pairing.specs.Looks.{number_of};
     ghost use Rattle.walrus_item_meaning.specs.Meaning.{own_table};
-    ghost use Rattle.walrus_emit_sections.specs.Items.{table};
+    ghost use Rattle.walrus_emit_due.specs.Items.{table};
 
     ghost Seen = { grammar.Table };
 

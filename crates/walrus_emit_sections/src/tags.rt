@@ -4,7 +4,7 @@ ghost use Rattle.walrus_index_maps.specs.Views.{indices};
 ghost use Rattle.walrus_pairing.specs.Looks.{number_of};
 ghost use Rattle.walrus_item_meaning.specs.Meaning.{own_tag, slots_of};
 ghost use Rattle.walrus_emit_parts.specs.Due.{Writes};
-ghost use Rattle.walrus_emit_sections.specs.Items.{tag, tags};
+ghost use Rattle.walrus_emit_due.specs.Items.{tag, tags};
 
 use crate::own::{OwnEntry, write_limited};
 use walrus_collections::ModuleTags;
@@ -41,7 +41,7 @@ impl<'a> OwnEntry<Tag> for Tags<'a> {
     ghost use Rattle.walrus_index_maps.specs.Views.{indices};
     ghost use Rattle.walrus_pairing.specs.Looks.{number_of};
     ghost use Rattle.walrus_item_meaning.specs.Meaning.{own_tag};
-    ghost use Rattle.walrus_emit_sections.specs.Items.{tag};
+    ghost use Rattle.walrus_emit_due.specs.Items.{tag};
 
     ghost Seen = { grammar.Tag };
 

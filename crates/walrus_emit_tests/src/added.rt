@@ -2,7 +2,7 @@
 use std::alloc::{AllocError, Global};
 use walrus_arena::{FunctionId, GlobalId, MemoryId, TableId, TypeId};
 use walrus_builder::FunctionBuilder;
-use walrus_forms::{HeapType, RefType, ValType};
+use walrus_forms::{AbstractHeapType, HeapType, RefType, ValType};
 use walrus_instr::{ConstExpr, Value};
 use walrus_module_items::{DataKind, ElementItems, ElementKind};
 use walrus_passes::local_function::LocalFunction;
@@ -94,6 +94,21 @@ pub(crate) fn add_shared(module: &mut Module) -> Result<(), AllocError> {
     module
         .globals
         .add_local(ValType::I32, false, true, ConstExpr::Value(Value::I32(7)))?;
+    Ok(())
+}
+
+/// Adds tables of shared references, the first with null.
+pub(crate) fn add_shared_tables(module: &mut Module) -> Result<(), AllocError> {
+    let first = RefType {
+        nullable: true,
+        heap_type: HeapType::Shared(AbstractHeapType::Extern),
+    };
+    let second = RefType {
+        nullable: false,
+        heap_type: HeapType::Shared(AbstractHeapType::Any),
+    };
+    module.tables.add_local(false, 1, None, first)?;
+    module.tables.add_local(false, 1, None, second)?;
     Ok(())
 }
 

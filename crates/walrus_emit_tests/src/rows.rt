@@ -2,7 +2,7 @@
 use crate::edits::{Edit, Item};
 use crate::files::{
     BRINGS_TABLE, CALLS_BEHIND, DECLARED, DECLARED_WITH_OWN, EMPTY, MADE, NOP, OWN, PLAIN, REFERS,
-    RETURNS, TABLE_ALONE, THREE, TOLD_NEVER, TOLD_ONCE, TOLD_TWICE, USED,
+    RETURNS, SHARED_TABLES, TABLE_ALONE, THREE, TOLD_NEVER, TOLD_ONCE, TOLD_TWICE, USED,
 };
 use crate::own::Own;
 use crate::steps::{Step, steps_taken};
@@ -53,7 +53,7 @@ const MANY_TABLES: ModuleError = ModuleError::OutputLimit {
 };
 
 // A file, whether places are kept of it, and the steps.
-const ROWS: [(&[u8], bool, &[Step]); 26] = [
+const ROWS: [(&[u8], bool, &[Step]); 27] = [
     // What calls made is written, once more the same, and then what is used of it.
     (
         EMPTY,
@@ -143,6 +143,17 @@ const ROWS: [(&[u8], bool, &[Step]); 26] = [
             Step::Unsupported(Form::SharedGlobal),
             Step::Gc(None),
             Step::Writes(PLAIN),
+        ],
+    ),
+    // Shared types, which a module may have where they aren't read.
+    (
+        EMPTY,
+        false,
+        &[
+            Step::SharedTables,
+            Step::Writes(SHARED_TABLES),
+            Step::Gc(None),
+            Step::Writes(EMPTY),
         ],
     ),
     // An exact type.

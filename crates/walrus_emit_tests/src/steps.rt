@@ -1,7 +1,7 @@
 //! Modules that are read, and then changed and written step by step.
 use crate::added::{
     add_each, add_exact, add_imported, add_imported_table, add_named, add_parameters, add_shared,
-    add_tables,
+    add_shared_tables, add_tables,
 };
 use crate::edits::{Edit, Item, delete, edit_body, uninitialize};
 use crate::own::{Own, add_own};
@@ -27,6 +27,8 @@ pub(crate) enum Step {
     /// An imported table that is exported, and in whose field for an initialiser stands the function of this number.
     ImportedTable(usize),
     Shared,
+    /// Tables of shared references.
+    SharedTables,
     Exact,
     Tables(usize),
     Parameters(usize),
@@ -57,6 +59,7 @@ fn add(alloc: Global, module: &mut Module, step: Step) -> Result<()> {
         Step::Imported => add_imported(module)?,
         Step::ImportedTable(number) => add_imported_table(module, number)?,
         Step::Shared => add_shared(module)?,
+        Step::SharedTables => add_shared_tables(module)?,
         Step::Exact => add_exact(module)?,
         Step::Tables(count) => add_tables(module, count)?,
         Step::Parameters(count) => add_parameters(alloc, module, count)?,

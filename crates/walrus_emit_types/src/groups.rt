@@ -3,7 +3,7 @@
 ghost use Rattle.std.specs.Prelude.{map};
 ghost use Rattle.walrus_forms.specs.Records.{record_kind, type_group};
 ghost use Rattle.walrus_emit_parts.specs.Due.{Writes};
-ghost use Rattle.walrus_emit_types.specs.Types.{group, members};
+ghost use Rattle.walrus_emit_due.specs.Types.{group, members};
 
 use crate::kinds::{write_list, write_type};
 use walrus_emit_parts::{Entry, write_byte};
@@ -19,7 +19,7 @@ struct Types;
 impl Entry<TypeRecord> for Types {
     ghost use Rattle.walrus_forms.specs.Kinds.{Kind};
     ghost use Rattle.walrus_forms.specs.Records.{record_kind};
-    ghost use Rattle.walrus_emit_types.specs.Types.{kind};
+    ghost use Rattle.walrus_emit_due.specs.Types.{kind};
 
     ghost Seen = { Kind };
 

@@ -4,7 +4,7 @@ ghost use Rattle.std.specs.Prelude.{[], ◌∷◌, ◌++◌, map};
 ghost use Rattle.walrus_forms.specs.Records.{record_form, record_kind, value_of, field_of};
 ghost use Rattle.walrus_forms.specs.Forms.{ArrayForm, FunctionForm, StructForm};
 ghost use Rattle.walrus_emit_parts.specs.Due.{Writes, written};
-ghost use Rattle.walrus_emit_types.specs.Types.{form, kind, list, supertypes};
+ghost use Rattle.walrus_emit_due.specs.Types.{form, kind, list, supertypes};
 
 use crate::values::{write_field, write_value};
 use walrus_emit_parts::{Entry, write_byte, write_number, write_vec};
@@ -24,7 +24,7 @@ struct Values;
 impl Entry<ValRecord> for Values {
     ghost use Rattle.walrus_forms.specs.declared.value.ValType.{ValType};
     ghost use Rattle.walrus_forms.specs.Records.{value_of};
-    ghost use Rattle.walrus_emit_types.specs.Types.{value};
+    ghost use Rattle.walrus_emit_due.specs.Types.{value};
 
     ghost Seen = { ValType };
 
@@ -43,7 +43,7 @@ struct Fields;
 impl Entry<FieldRecord> for Fields {
     ghost use Rattle.walrus_forms.specs.declared.value.FieldType.{FieldType};
     ghost use Rattle.walrus_forms.specs.Records.{field_of};
-    ghost use Rattle.walrus_emit_types.specs.Types.{field};
+    ghost use Rattle.walrus_emit_due.specs.Types.{field};
 
     ghost Seen = { FieldType };
 

@@ -4,7 +4,7 @@ ghost use Rattle.std.specs.Prelude.{length, map};
 ghost use Rattle.wasm_formats.specs.declared.fault.Limited.TheVariants.{Types};
 ghost use Rattle.walrus_forms.specs.Records.{type_group};
 ghost use Rattle.walrus_emit_parts.specs.Due.{Writes, limited};
-ghost use Rattle.walrus_emit_types.specs.Types.{type_section};
+ghost use Rattle.walrus_emit_due.specs.Types.{type_section};
 
 use crate::groups::write_group;
 use walrus_emit_parts::{Entry, Part, write_section, write_vec};
@@ -20,7 +20,7 @@ struct Groups;
 
 impl Entry<GroupRecord> for Groups {
     ghost use Rattle.walrus_forms.specs.Records.{TypeGroup, type_group};
-    ghost use Rattle.walrus_emit_types.specs.Types.{group};
+    ghost use Rattle.walrus_emit_due.specs.Types.{group};
 
     ghost Seen = { TypeGroup };
 
@@ -40,7 +40,7 @@ impl<'a> Part for Contents<'a> {
     ghost use Rattle.std.specs.Prelude.{map};
     ghost use Rattle.walrus_forms.specs.Records.{type_group};
     ghost use Rattle.walrus_emit_parts.specs.Due.{vec};
-    ghost use Rattle.walrus_emit_types.specs.Types.{group};
+    ghost use Rattle.walrus_emit_due.specs.Types.{group};
 
     ghost due = { λ contents. vec group (map type_group contents.0.now) };
 

@@ -3,10 +3,10 @@
 ghost use Rattle.std.specs.Prelude.{[], ◌∷◌, ◌++◌};
 ghost use Rattle.walrus_forms.specs.Records.{field_of, heap_of, ref_of, storage_of, value_of};
 ghost use Rattle.walrus_emit_parts.specs.Due.{Writes, written};
-ghost use Rattle.walrus_emit_types.specs.Types.{field, heap, mutability, reference, storage, value};
+ghost use Rattle.walrus_emit_due.specs.Types.{field, heap, mutability, reference, storage, value};
 
 use walrus_emit_parts::{write_byte, write_signed};
-use walrus_emit_values::write_abstract;
+use walrus_emit_values::{write_abstract, write_shared};
 use walrus_errors::{Form, ModuleError, Result};
 use walrus_forms::{FieldRecord, HeapRecord, RefRecord, StorageRecord, ValRecord};
 
@@ -15,10 +15,11 @@ fn write_heap(out: &mut Vec<u8>, ty: HeapRecord) -> Result<()>
 {
     match ty {
         HeapRecord::Abstract(ty) => write_abstract(out, ty),
+        HeapRecord::Shared(ty) => write_shared(out, ty),
         HeapRecord::Concrete(index) => write_signed(out, i64::from(index)),
         HeapRecord::Exact(_) => {
             let form = Form::ExactType;
-            Err(ModuleError::Unsupported { form, offset: 0 })
+            Err(ModuleError::Unsupported { form, offset: None })
         }
     }
 }
@@ -39,6 +40,7 @@ fn write_reference(out: &mut Vec<u8>, ty: RefRecord) -> Result<()>
     }
     match ty.heap_type {
         HeapRecord::Abstract(_) => write_heap(out, ty.heap_type),
+        HeapRecord::Shared(_) => write_heap(out, ty.heap_type),
         _ => write_long(out, 0x63, ty.heap_type),
     }
 }

@@ -21,12 +21,12 @@ use Rattle.walrus_pairing.specs.Looks.{Look}
 use Rattle.walrus_meaning.specs.Meaning.{own_data_mode, own_function, own_segment, slots_of}
 use Rattle.walrus_emit_parts.specs.Due.{Due, Refused, Writes, entries, section, vec, written}
 use Rattle.walrus_emit_parts.proofs.Lemmas.{lacks_it, refused_front, writes_on}
-use Rattle.walrus_emit_sections.specs.Own.{live}
+use Rattle.walrus_emit_due.specs.Own.{live}
 use Rattle.walrus_emit_sections.proofs.OwnLemmas.{live_is, live_passed, live_within}
-use Rattle.walrus_emit_uses.specs.Slots.{live_at}
-use Rattle.walrus_emit_uses.specs.DataCount.{counted, data_count, is_asked, is_passive}
-use Rattle.walrus_emit_uses.specs.FunctionTypes as types
-use Rattle.walrus_emit_uses.specs.Imports as due_of
+use Rattle.walrus_emit_due.specs.Slots.{live_at}
+use Rattle.walrus_emit_due.specs.DataCount.{counted, data_count, is_asked, is_passive}
+use Rattle.walrus_emit_due.specs.FunctionTypes as types
+use Rattle.walrus_emit_due.specs.Imports as due_of
 
 -- ---- what lives
 

@@ -5,7 +5,7 @@ ghost use Rattle.std.specs.List.{list_any};
 ghost use Rattle.walrus_collections.specs.LookUps.{items};
 ghost use Rattle.walrus_meaning.specs.Meaning.{own_segment, slots_of};
 ghost use Rattle.walrus_emit_parts.specs.Due.{Writes};
-ghost use Rattle.walrus_emit_uses.specs.DataCount as counts;
+ghost use Rattle.walrus_emit_due.specs.DataCount as counts;
 
 use walrus_collections::ModuleData;
 use walrus_emit_parts::{Part, write_number, write_section};

@@ -2,15 +2,15 @@
 
 ghost use Rattle.std.specs.Prelude.{◌≡◌, ◌<◌, ◌++◌};
 ghost use Rattle.wasm_formats.specs.declared.fault.Space.TheVariants as spaces;
-ghost use Rattle.walrus_collections.specs.Tests as tests;
+ghost use Rattle.wasm_section_bytes.specs.Flags as flags;
 ghost use Rattle.walrus_index_maps.specs.Views.{indices};
 ghost use Rattle.walrus_pairing.specs.Looks.{number_of};
 ghost use Rattle.walrus_meaning.specs.Meaning.{own_element, own_elements, own_table, slots_of};
 ghost use Rattle.walrus_meaning.specs.Words.{own_expr};
 ghost use Rattle.walrus_emit_parts.specs.Due.{Writes, number, vec};
-ghost use Rattle.walrus_emit_values.specs.Values.{expr, index};
-ghost use Rattle.walrus_emit_uses.specs.Slots.{live_at};
-ghost use Rattle.walrus_emit_uses.specs.Elements as due;
+ghost use Rattle.walrus_emit_due.specs.Values.{expr, index};
+ghost use Rattle.walrus_emit_due.specs.Slots.{live_at};
+ghost use Rattle.walrus_emit_due.specs.Elements as due;
 
 use walrus_arena::{FunctionId, TableId};
 use walrus_collections::module_items::{Element, ElementItems, ElementKind};
@@ -28,7 +28,7 @@ const MAX: u64 = 100_000;
 
 // Whether these are references to functions, of any function type, or null.
 fn is_funcref(ty: &RefType) -> bool
-    ensures { result ≡ tests.is_funcref ty.now }
+    ensures { result ≡ flags.is_funcref ty.now }
 {
     ty.nullable && matches!(ty.heap_type, HeapType::Abstract(AbstractHeapType::Func))
 }
@@ -81,7 +81,7 @@ impl<'a> Entry<FunctionId> for Functions<'a> {
     ghost use Rattle.std.specs.Prelude.{ℕ};
     ghost use Rattle.wasm_formats.specs.declared.fault.Space.TheVariants as spaces;
     ghost use Rattle.walrus_index_maps.specs.Views.{indices};
-    ghost use Rattle.walrus_emit_values.specs.Values.{index};
+    ghost use Rattle.walrus_emit_due.specs.Values.{index};
 
     ghost Seen = { ℕ };
 
@@ -102,7 +102,7 @@ impl<'a> Entry<ConstExpr> for Exprs<'a> {
     ghost use Rattle.walrus_index_maps.specs.Views.{indices};
     ghost use Rattle.walrus_pairing.specs.Looks.{number_of};
     ghost use Rattle.walrus_meaning.specs.Words.{own_expr};
-    ghost use Rattle.walrus_emit_values.specs.Values.{expr};
+    ghost use Rattle.walrus_emit_due.specs.Values.{expr};
 
     ghost Seen = { Expr };
 
@@ -295,7 +295,7 @@ impl<'a> OwnEntry<Element> for Elements<'a> {
     ghost use Rattle.walrus_index_maps.specs.Views.{indices};
     ghost use Rattle.walrus_pairing.specs.Looks.{number_of};
     ghost use Rattle.walrus_meaning.specs.Meaning.{own_element, own_table, slots_of};
-    ghost use Rattle.walrus_emit_uses.specs.Elements.{element};
+    ghost use Rattle.walrus_emit_due.specs.Elements.{element};
 
     ghost Seen = { grammar.Element };
 

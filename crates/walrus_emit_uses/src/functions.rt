@@ -6,7 +6,7 @@ ghost use Rattle.walrus_items.specs.declared.local.Local.{Local};
 ghost use Rattle.walrus_pairing.specs.Looks.{number_of};
 ghost use Rattle.walrus_meaning.specs.Meaning.{own_function, slots_of};
 ghost use Rattle.walrus_emit_parts.specs.Due.{Writes, entries};
-ghost use Rattle.walrus_emit_uses.specs.FunctionTypes.{function_types, type_in};
+ghost use Rattle.walrus_emit_due.specs.FunctionTypes.{function_types, type_in};
 
 use walrus_arena::FunctionId;
 use walrus_collections::ModuleFunctions;
@@ -46,7 +46,7 @@ impl<'a> Entry<FunctionId> for Functions<'a> {
     ghost use Rattle.walrus_index_maps.specs.Views.{indices};
     ghost use Rattle.walrus_pairing.specs.Looks.{number_of};
     ghost use Rattle.walrus_meaning.specs.Meaning.{own_function, slots_of};
-    ghost use Rattle.walrus_emit_uses.specs.FunctionTypes.{type_in};
+    ghost use Rattle.walrus_emit_due.specs.FunctionTypes.{type_in};
 
     ghost Seen = { ℕ };
 
@@ -71,7 +71,7 @@ impl<'a> Part for Contents<'a> {
     ghost use Rattle.walrus_pairing.specs.Looks.{number_of};
     ghost use Rattle.walrus_meaning.specs.Meaning.{own_function, slots_of};
     ghost use Rattle.walrus_emit_parts.specs.Due.{vec};
-    ghost use Rattle.walrus_emit_uses.specs.FunctionTypes.{type_in};
+    ghost use Rattle.walrus_emit_due.specs.FunctionTypes.{type_in};
 
     ghost due = { λ w. vec (type_in (number_of (indices w.writer.maps.now) 0) (slots_of (own_function []) w.writer.items.now)) w.order.now };
 

@@ -6,9 +6,9 @@ ghost use Rattle.walrus_pairing.specs.Looks.{number_of};
 ghost use Rattle.walrus_linked.specs.walrus_module.Parts.{parts};
 ghost use Rattle.walrus_meaning.specs.Meaning.{means, own_brought, own_global, own_import, own_memory, own_table, own_tag, slots_of};
 ghost use Rattle.walrus_emit_parts.specs.Due.{Writes};
-ghost use Rattle.walrus_emit_sections.specs.Items.{global_type, memory, space_kind, table_type, tag};
-ghost use Rattle.walrus_emit_uses.specs.Slots.{live_at};
-ghost use Rattle.walrus_emit_uses.specs.Imports as due;
+ghost use Rattle.walrus_emit_due.specs.Items.{global_type, memory, space_kind, table_type, tag};
+ghost use Rattle.walrus_emit_due.specs.Slots.{live_at};
+ghost use Rattle.walrus_emit_due.specs.Imports as due;
 
 use walrus_arena::{FunctionId, GlobalId, MemoryId, TableId, TagId};
 use walrus_collections::module_items::ImportKind;
@@ -174,7 +174,7 @@ impl<'a, B> OwnEntry<Import> for Imports<'a, B> {
     ghost use Rattle.walrus_pairing.specs.Looks.{number_of};
     ghost use Rattle.walrus_linked.specs.walrus_module.Parts.{parts};
     ghost use Rattle.walrus_meaning.specs.Meaning.{means, own_import};
-    ghost use Rattle.walrus_emit_uses.specs.Imports.{import};
+    ghost use Rattle.walrus_emit_due.specs.Imports.{import};
 
     ghost Seen = { grammar.Import };
 

@@ -3,7 +3,7 @@
 ghost use Rattle.walrus_index_maps.specs.Views.{indices};
 ghost use Rattle.walrus_pairing.specs.Looks.{number_of};
 ghost use Rattle.walrus_emit_parts.specs.Due.{Writes};
-ghost use Rattle.walrus_emit_uses.specs.Starts as starts;
+ghost use Rattle.walrus_emit_due.specs.Starts as starts;
 
 use walrus_arena::FunctionId;
 use walrus_emit_parts::{Part, write_section};
@@ -16,7 +16,7 @@ struct Start(Option<u32>);
 
 impl Part for Start {
     ghost use Rattle.wasm_formats.specs.declared.fault.Space.TheVariants as spaces;
-    ghost use Rattle.walrus_emit_values.specs.Values.{index};
+    ghost use Rattle.walrus_emit_due.specs.Values.{index};
 
     ghost due = { λ w. index spaces.Function w.0 };
 

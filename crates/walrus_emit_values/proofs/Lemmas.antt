@@ -11,7 +11,7 @@ use Rattle.walrus_errors.specs.declared.error.ModuleError.{ModuleError}
 use Rattle.walrus_errors.specs.declared.error.ModuleError.TheVariants.{DeadReference, Unsupported}
 use Rattle.walrus_emit_parts.specs.Due.{Due, written, Refused, Writes}
 use Rattle.walrus_emit_parts.proofs.Lemmas.{lacks_it, refused_front, writes_on}
-use Rattle.walrus_emit_values.specs.Values.{heap, index, signed_index}
+use Rattle.walrus_emit_due.specs.Values.{heap, index, signed_index}
 
 pub lacks_index : (space : Space) (number : Option ℕ) (old : List ℕ) → number ≡ None → Refused (index space number) old old (DeadReference space)
 lacks_index space number old none =
@@ -21,9 +21,9 @@ pub lacks_type : (number : Option ℕ) (old : List ℕ) → number ≡ None → 
 lacks_type number old none =
     subst (λ (o : Option ℕ). Refused (signed_index o) old old (DeadReference spaces.«Type»)) (sym none) (lacks_it (DeadReference spaces.«Type») old old refl)
 
-pub lacks_exact : (types : ℕ → Option ℕ) (ty : HeapType) (id : ℕ) (old : List ℕ) → ty ≡ Exact id → Refused (heap types (heap_from ty)) old old (Unsupported ExactType 0)
+pub lacks_exact : (types : ℕ → Option ℕ) (ty : HeapType) (id : ℕ) (old : List ℕ) → ty ≡ Exact id → Refused (heap types (heap_from ty)) old old (Unsupported ExactType None)
 lacks_exact types ty id old is =
-    subst (λ (t : HeapType). Refused (heap types (heap_from t)) old old (Unsupported ExactType 0)) (sym is) (lacks_it (Unsupported ExactType 0) old old refl)
+    subst (λ (t : HeapType). Refused (heap types (heap_from t)) old old (Unsupported ExactType None)) (sym is) (lacks_it (Unsupported ExactType None) old old refl)
 
 -- the second of three is refused
 pub refused_second : (a b c : Due) (old mid new : List ℕ) (e : ModuleError) → written mid ≡ written old ++ a → Refused b mid new e → Refused (a ++ (b ++ c)) old new e

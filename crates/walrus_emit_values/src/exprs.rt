@@ -7,7 +7,7 @@ ghost use Rattle.walrus_index_maps.specs.Views.{indices};
 ghost use Rattle.walrus_pairing.specs.Looks.{number_of};
 ghost use Rattle.walrus_emit_parts.specs.Due.{Writes, written};
 ghost use Rattle.walrus_module_items.specs.Words.{const_seen, own_expr};
-ghost use Rattle.walrus_emit_values.specs.Values.{expr, items_due, operator};
+ghost use Rattle.walrus_emit_due.specs.Values.{expr, items_due, operator};
 
 use crate::types::{write_index, write_own_heap};
 use walrus_arena::TypeId;
@@ -110,7 +110,7 @@ impl<'a> Entry<ConstOp> for Operators<'a> {
     ghost use Rattle.walrus_index_maps.specs.Views.{indices};
     ghost use Rattle.walrus_pairing.specs.Looks.{number_of};
     ghost use Rattle.walrus_module_items.specs.Words.{const_seen};
-    ghost use Rattle.walrus_emit_values.specs.Values.{operator};
+    ghost use Rattle.walrus_emit_due.specs.Values.{operator};
 
     ghost Seen = { Seen };
 

@@ -18,5 +18,6 @@ mod types;
 pub use exprs::write_expr;
 pub use limits::{write_limits, write_optional};
 pub use types::{
-    write_abstract, write_heap, write_index, write_own_heap, write_reference, write_value,
+    write_abstract, write_heap, write_index, write_own_heap, write_reference, write_shared,
+    write_value,
 };

@@ -1,7 +1,7 @@
 //! Limits.
 
 ghost use Rattle.walrus_emit_parts.specs.Due.{Writes};
-ghost use Rattle.walrus_emit_values.specs.Values.{limits, optional};
+ghost use Rattle.walrus_emit_due.specs.Values.{limits, optional};
 
 use walrus_emit_parts::{write_byte, write_number};
 use walrus_errors::Result;

@@ -6,9 +6,9 @@ ghost use Rattle.wasm_grammar.specs.TypeWords.{abstract_from, heap_from, ref_fro
 ghost use Rattle.walrus_index_maps.specs.Views.{indices};
 ghost use Rattle.walrus_emit_parts.specs.Due.{Writes, written};
 ghost use Rattle.walrus_module_items.specs.Words.{own_heap};
-ghost use Rattle.walrus_emit_values.specs.Values.{heap, index, reference, reference_parts, signed_index, value};
+ghost use Rattle.walrus_emit_due.specs.Values.{heap, index, reference, reference_parts, signed_index, value};
 
-use walrus_emit_parts::{write_byte, write_number, write_signed};
+use walrus_emit_parts::{write_byte, write_bytes, write_number, write_signed};
 use walrus_errors::{ModuleError, Result};
 use walrus_forms::{AbstractHeapType, HeapType, RefType, ValType};
 use walrus_index_maps::IdsToIndices;
@@ -69,6 +69,17 @@ pub fn write_abstract(out: &mut Vec<u8>, ty: AbstractHeapType) -> Result<()>
     write_byte(out, code(ty))
 }
 
+/// An abstract heap type that is shared.
+///
+/// # Errors
+///
+/// Want of memory.
+pub fn write_shared(out: &mut Vec<u8>, ty: AbstractHeapType) -> Result<()>
+    ensures { Writes (written (0x65 ∷ abstract_code (abstract_from ty) ∷ [])) out.old.items out.new.items result }
+{
+    write_bytes(out, &[0x65, code(ty)])
+}
+
 /// A heap type.
 ///
 /// # Errors
@@ -79,10 +90,11 @@ pub fn write_heap(out: &mut Vec<u8>, ty: HeapType, maps: &IdsToIndices) -> Resul
 {
     match ty {
         HeapType::Abstract(kind) => write_byte(out, code(kind)),
+        HeapType::Shared(kind) => write_shared(out, kind),
         HeapType::Concrete(id) => write_signed_index(out, maps.get_type_index(id)),
         HeapType::Exact(_) => {
             let form = Form::ExactType;
-            Err(ModuleError::Unsupported { form, offset: 0 })
+            Err(ModuleError::Unsupported { form, offset: None })
         }
     }
 }
@@ -120,6 +132,7 @@ fn write_reference_parts(
     }
     match ty {
         HeapType::Abstract(_) => write_heap(out, ty, maps),
+        HeapType::Shared(_) => write_heap(out, ty, maps),
         _ => write_long(out, 0x63, ty, maps),
     }
 }

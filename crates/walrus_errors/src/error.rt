@@ -60,8 +60,8 @@ pub enum ModuleError {
     Position { offset: u64 },
     /// No operator, or one that is switched off.
     Operator { offset: u64 },
-    /// A form of the standard that isn't supported.
-    Unsupported { form: Form, offset: u64 },
+    /// A form of the standard that isn't supported; at its place, where it stands in bytes.
+    Unsupported { form: Form, offset: Option<u64> },
     /// A second export of a name; at its entry.
     DuplicateExport { offset: u64 },
     /// A number out of bounds.
@@ -108,10 +108,10 @@ impl ModuleError {
             | ModuleError::Nesting { offset }
             | ModuleError::Position { offset }
             | ModuleError::Operator { offset }
-            | ModuleError::Unsupported { offset, .. }
             | ModuleError::DuplicateExport { offset }
             | ModuleError::Bounds { offset }
             | ModuleError::Limit { offset, .. } => Some(offset),
+            ModuleError::Unsupported { offset, .. } => offset,
             _ => None,
         }
     }

@@ -2,7 +2,7 @@
 use Rattle.std.specs.Prelude.{ℕ, nat_eq, Bool, true, false, not, ◌&&◌, ◌||◌, List, Option, Some, None}
 use Rattle.std.specs.List.{list_any}
 use Rattle.walrus_forms.specs.declared.value.HeapType.{HeapType}
-use Rattle.walrus_forms.specs.declared.value.HeapType.TheVariants.{Abstract, Concrete, Exact}
+use Rattle.walrus_forms.specs.declared.value.HeapType.TheVariants.{Abstract, Shared, Concrete, Exact}
 use Rattle.walrus_forms.specs.declared.value.RefType.{RefType}
 use Rattle.walrus_forms.specs.declared.value.ValType.{ValType}
 use Rattle.walrus_forms.specs.declared.value.ValType.TheVariants.{Ref}
@@ -35,6 +35,7 @@ use Rattle.walrus_module_items.specs.declared.element.ElementItems.TheVariants a
 -- ---- types
 abbrev pub heap_exact : HeapType → Bool
 heap_exact (Abstract _) = false
+heap_exact (Shared _) = false
 heap_exact (Concrete _) = false
 heap_exact (Exact _) = true
 

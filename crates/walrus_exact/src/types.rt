@@ -11,7 +11,7 @@ pub fn ref_exact(ty: &RefType) -> bool
     ensures { result ≡ ref_exact ty.now }
 {
     match ty.heap_type {
-        HeapType::Abstract(_) | HeapType::Concrete(_) => false,
+        HeapType::Abstract(_) | HeapType::Shared(_) | HeapType::Concrete(_) => false,
         HeapType::Exact(_) => true,
     }
 }

@@ -2,7 +2,7 @@
 use Rattle.std.proofs.Common.{◌≡◌, ◌∙◌, ℕ, IfSome, refl, ap, sym}
 use Rattle.std.specs.Option.{option_map}
 use Rattle.walrus_forms.specs.declared.value.HeapType.{HeapType}
-use Rattle.walrus_forms.specs.declared.value.HeapType.TheVariants.{Abstract, Concrete, Exact}
+use Rattle.walrus_forms.specs.declared.value.HeapType.TheVariants.{Abstract, Shared, Concrete, Exact}
 use Rattle.walrus_forms.specs.declared.value.RefType.{RefType}
 use Rattle.walrus_forms.specs.declared.value.ValType.{ValType}
 use Rattle.walrus_forms.specs.declared.value.ValType.TheVariants.{I32, I64, F32, F64, V128, Ref}
@@ -10,7 +10,7 @@ use Rattle.walrus_forms.specs.declared.value.StorageType.{StorageType}
 use Rattle.walrus_forms.specs.declared.value.StorageType.TheVariants.{Val, I8, I16}
 use Rattle.walrus_forms.specs.declared.value.FieldType.{FieldType}
 use Rattle.walrus_forms.specs.declared.record.HeapRecord.{HeapRecord}
-use Rattle.walrus_forms.specs.declared.record.HeapRecord.TheVariants.{Abstract as RAbstract, Concrete as RConcrete, Exact as RExact}
+use Rattle.walrus_forms.specs.declared.record.HeapRecord.TheVariants.{Abstract as RAbstract, Shared as RShared, Concrete as RConcrete, Exact as RExact}
 use Rattle.walrus_forms.specs.declared.record.RefRecord.{RefRecord}
 use Rattle.walrus_forms.specs.declared.record.ValRecord.{ValRecord}
 use Rattle.walrus_forms.specs.declared.record.ValRecord.TheVariants.{I32 as RI32, I64 as RI64, F32 as RF32, F64 as RF64, V128 as RV128, Ref as RRef}
@@ -24,6 +24,7 @@ use Rattle.walrus_forms.specs.Conversions.{NamesAreRenamed, Undoes, TypesComeBac
 
 heap_renamed : (r : ℕ → ℕ) (ty : HeapType) → heap_name (renamed_heap r ty) ≡ option_map r (heap_name ty)
 heap_renamed r (Abstract ty) = refl
+heap_renamed r (Shared ty) = refl
 heap_renamed r (Concrete name) = refl
 heap_renamed r (Exact name) = refl
 
@@ -51,6 +52,7 @@ names_are_renamed = record {
 
 heap_back : (back there : ℕ → ℕ) (ty : HeapType) → IfSome (heap_name ty) (Undoes back there) → renamed_heap back (renamed_heap there ty) ≡ ty
 heap_back back there (Abstract ty) h = refl
+heap_back back there (Shared ty) h = refl
 heap_back back there (Concrete name) h = ap Concrete h
 heap_back back there (Exact name) h = ap Exact h
 
@@ -79,6 +81,7 @@ types_come_back = record {
 -- the record that describes a type
 abbrev heap_made : HeapType → HeapRecord
 heap_made (Abstract ty) = RAbstract ty
+heap_made (Shared ty) = RShared ty
 heap_made (Concrete index) = RConcrete index
 heap_made (Exact index) = RExact index
 
@@ -103,6 +106,7 @@ field_made field = record { element_type = storage_made field.element_type; muta
 
 heap_again : (ty : HeapRecord) → heap_made (heap_of ty) ≡ ty
 heap_again (RAbstract ty) = refl
+heap_again (RShared ty) = refl
 heap_again (RConcrete index) = refl
 heap_again (RExact index) = refl
 

@@ -7,7 +7,7 @@ use Rattle.std.proofs.Math.Bool.{and-true}
 use Rattle.std.proofs.lemmas.Bool.{and_parts, and_from, eqb-true, eq-eqb, false≢true}
 use Rattle.walrus_forms.proofs.AbstractLemmas.{abstract-same, abstract-itself}
 use Rattle.walrus_forms.specs.declared.value.HeapType.{HeapType}
-use Rattle.walrus_forms.specs.declared.value.HeapType.TheVariants.{Abstract, Concrete, Exact}
+use Rattle.walrus_forms.specs.declared.value.HeapType.TheVariants.{Abstract, Shared, Concrete, Exact}
 use Rattle.walrus_forms.specs.declared.value.RefType.{RefType}
 use Rattle.walrus_forms.specs.declared.value.ValType.{ValType}
 use Rattle.walrus_forms.specs.declared.value.ValType.TheVariants.{I32, I64, F32, F64, V128, Ref}
@@ -64,17 +64,25 @@ lists-itself {X} {E} t (x ∷ xs) = and_from (E x x) (pointwise E xs xs) (t.itse
 
 heaps-same : (x y : HeapType) → heap_eq.eq x y ≡ true → x ≡ y
 heaps-same (Abstract x) (Abstract y) e = ap Abstract (abstract-same x y e)
+heaps-same (Shared x) (Shared y) e = ap Shared (abstract-same x y e)
 heaps-same (Concrete x) (Concrete y) e = ap Concrete (eqb-true x y (sym (and-true (nat_eq x y)) ∙ e))
 heaps-same (Exact x) (Exact y) e = ap Exact (eqb-true x y (sym (and-true (nat_eq x y)) ∙ e))
+heaps-same (Abstract x) (Shared y) e = absurd (false≢true e)
 heaps-same (Abstract x) (Concrete y) e = absurd (false≢true e)
 heaps-same (Abstract x) (Exact y) e = absurd (false≢true e)
+heaps-same (Shared x) (Abstract y) e = absurd (false≢true e)
+heaps-same (Shared x) (Concrete y) e = absurd (false≢true e)
+heaps-same (Shared x) (Exact y) e = absurd (false≢true e)
 heaps-same (Concrete x) (Abstract y) e = absurd (false≢true e)
+heaps-same (Concrete x) (Shared y) e = absurd (false≢true e)
 heaps-same (Concrete x) (Exact y) e = absurd (false≢true e)
 heaps-same (Exact x) (Abstract y) e = absurd (false≢true e)
+heaps-same (Exact x) (Shared y) e = absurd (false≢true e)
 heaps-same (Exact x) (Concrete y) e = absurd (false≢true e)
 
 heaps-itself : (x : HeapType) → heap_eq.eq x x ≡ true
 heaps-itself (Abstract x) = abstract-itself x
+heaps-itself (Shared x) = abstract-itself x
 heaps-itself (Concrete x) = and-true (nat_eq x x) ∙ eq-eqb x x refl
 heaps-itself (Exact x) = and-true (nat_eq x x) ∙ eq-eqb x x refl
 

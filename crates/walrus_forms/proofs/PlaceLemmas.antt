@@ -5,7 +5,7 @@ use Rattle.std.specs.Ordering.{ordering_then, bool_cmp, nat_cmp}
 use Rattle.walrus_forms.specs.declared.value.AbstractHeapType.{AbstractHeapType}
 use Rattle.walrus_forms.specs.declared.value.AbstractHeapType.TheVariants.{Func, Extern, Any, None, NoExtern, NoFunc, Eq, Struct, Array, I31, Exn, NoExn}
 use Rattle.walrus_forms.specs.declared.value.HeapType.{HeapType}
-use Rattle.walrus_forms.specs.declared.value.HeapType.TheVariants.{Abstract, Concrete, Exact}
+use Rattle.walrus_forms.specs.declared.value.HeapType.TheVariants.{Abstract, Shared, Concrete, Exact}
 use Rattle.walrus_forms.specs.declared.value.RefType.{RefType}
 use Rattle.walrus_forms.specs.declared.value.ValType.{ValType}
 use Rattle.walrus_forms.specs.declared.value.ValType.TheVariants.{I32, I64, F32, F64, V128, Ref}
@@ -173,12 +173,19 @@ then-equal Greater = refl
 
 heap-places : (a b : HeapType) → heap_ord.cmp a b ≡ heap_cmp a b
 heap-places (Abstract a) (Abstract b) = abstract-places a b
+heap-places (Abstract a) (Shared b) = refl
 heap-places (Abstract a) (Concrete b) = refl
 heap-places (Abstract a) (Exact b) = refl
+heap-places (Shared a) (Abstract b) = refl
+heap-places (Shared a) (Shared b) = abstract-places a b
+heap-places (Shared a) (Concrete b) = refl
+heap-places (Shared a) (Exact b) = refl
 heap-places (Concrete a) (Abstract b) = refl
+heap-places (Concrete a) (Shared b) = refl
 heap-places (Concrete a) (Concrete b) = then-equal (nat_cmp a b)
 heap-places (Concrete a) (Exact b) = refl
 heap-places (Exact a) (Abstract b) = refl
+heap-places (Exact a) (Shared b) = refl
 heap-places (Exact a) (Concrete b) = refl
 heap-places (Exact a) (Exact b) = then-equal (nat_cmp a b)
 

@@ -5,7 +5,7 @@ use Rattle.std.specs.Option.{option_map, option_to_list}
 use Rattle.std.proofs.lemmas.Bool.{eqb-true, eq-eqb, cases_Bool}
 use Rattle.std.proofs.lemmas.List.{map-append}
 use Rattle.walrus_forms.specs.declared.value.HeapType.{HeapType}
-use Rattle.walrus_forms.specs.declared.value.HeapType.TheVariants.{Abstract, Concrete, Exact}
+use Rattle.walrus_forms.specs.declared.value.HeapType.TheVariants.{Abstract, Shared, Concrete, Exact}
 use Rattle.walrus_forms.specs.declared.value.RefType.{RefType}
 use Rattle.walrus_forms.specs.declared.value.ValType.{ValType}
 use Rattle.walrus_forms.specs.declared.value.ValType.TheVariants.{I32, I64, F32, F64, V128, Ref}
@@ -97,6 +97,7 @@ lists-agree {X} h F G f g each (x ∷ xs) all =
 
 heaps-agree : (f g : ℕ → ℕ) (h : HeapType) → ((m : ℕ) → heap_name h ≡ Some m → f m ≡ g m) → renamed_heap f h ≡ renamed_heap g h
 heaps-agree f g (Abstract ty) all = refl
+heaps-agree f g (Shared ty) all = refl
 heaps-agree f g (Concrete m) all = ap Concrete (all m refl)
 heaps-agree f g (Exact m) all = ap Exact (all m refl)
 
@@ -143,6 +144,7 @@ lists-twice {X} F G H each (x ∷ xs) = ap (λ (y : X). y ∷ map G (map F xs)) 
 
 heaps-twice : (f g : ℕ → ℕ) (h : HeapType) → renamed_heap g (renamed_heap f h) ≡ renamed_heap (λ m. g (f m)) h
 heaps-twice f g (Abstract ty) = refl
+heaps-twice f g (Shared ty) = refl
 heaps-twice f g (Concrete m) = refl
 heaps-twice f g (Exact m) = refl
 
@@ -191,6 +193,7 @@ lists-names h F f each (x ∷ xs) =
 
 heaps-names : (f : ℕ → ℕ) (h : HeapType) → heap_name (renamed_heap f h) ≡ option_map f (heap_name h)
 heaps-names f (Abstract ty) = refl
+heaps-names f (Shared ty) = refl
 heaps-names f (Concrete m) = refl
 heaps-names f (Exact m) = refl
 

@@ -1,7 +1,7 @@
 -- What a contract sees of the records of a type section: kinds whose names are indices of the section.
 use Rattle.std.specs.Prelude.{Bool, true, false, List, map}
 use Rattle.walrus_forms.specs.declared.value.HeapType.{HeapType}
-use Rattle.walrus_forms.specs.declared.value.HeapType.TheVariants.{Abstract, Concrete, Exact}
+use Rattle.walrus_forms.specs.declared.value.HeapType.TheVariants.{Abstract, Shared, Concrete, Exact}
 use Rattle.walrus_forms.specs.declared.value.RefType.{RefType}
 use Rattle.walrus_forms.specs.declared.value.ValType.{ValType}
 use Rattle.walrus_forms.specs.declared.value.ValType.TheVariants.{I32, I64, F32, F64, V128, Ref}
@@ -9,7 +9,7 @@ use Rattle.walrus_forms.specs.declared.value.StorageType.{StorageType}
 use Rattle.walrus_forms.specs.declared.value.StorageType.TheVariants.{Val, I8, I16}
 use Rattle.walrus_forms.specs.declared.value.FieldType.{FieldType}
 use Rattle.walrus_forms.specs.declared.record.HeapRecord.{HeapRecord}
-use Rattle.walrus_forms.specs.declared.record.HeapRecord.TheVariants.{Abstract as RAbstract, Concrete as RConcrete, Exact as RExact}
+use Rattle.walrus_forms.specs.declared.record.HeapRecord.TheVariants.{Abstract as RAbstract, Shared as RShared, Concrete as RConcrete, Exact as RExact}
 use Rattle.walrus_forms.specs.declared.record.RefRecord.{RefRecord}
 use Rattle.walrus_forms.specs.declared.record.ValRecord.{ValRecord}
 use Rattle.walrus_forms.specs.declared.record.ValRecord.TheVariants.{I32 as RI32, I64 as RI64, F32 as RF32, F64 as RF64, V128 as RV128, Ref as RRef}
@@ -26,6 +26,7 @@ use Rattle.walrus_forms.specs.Kinds.{Kind, declared_kind}
 -- what a record describes, where each name is an index
 abbrev pub heap_of : HeapRecord → HeapType
 heap_of (RAbstract ty) = Abstract ty
+heap_of (RShared ty) = Shared ty
 heap_of (RConcrete index) = Concrete index
 heap_of (RExact index) = Exact index
 

@@ -2,7 +2,7 @@
 use Rattle.std.specs.Prelude.{ℕ, ◌<◌, List, map, All, Option, None, IfSome, unwrap_or, slice_index, slice_index_or}
 use Rattle.std.specs.Option.{option_map}
 use Rattle.walrus_forms.specs.declared.value.HeapType.{HeapType}
-use Rattle.walrus_forms.specs.declared.value.HeapType.TheVariants.{Abstract, Concrete, Exact}
+use Rattle.walrus_forms.specs.declared.value.HeapType.TheVariants.{Abstract, Shared, Concrete, Exact}
 use Rattle.walrus_forms.specs.declared.value.RefType.{RefType}
 use Rattle.walrus_forms.specs.declared.value.ValType.{ValType}
 use Rattle.walrus_forms.specs.declared.value.ValType.TheVariants.{I32, I64, F32, F64, V128, Ref}
@@ -16,6 +16,7 @@ use Rattle.walrus_forms.specs.Kinds.{Kind}
 -- each name replaced by what r gives of it
 abbrev pub renamed_heap : (ℕ → ℕ) → HeapType → HeapType
 renamed_heap r (Abstract ty) = Abstract ty
+renamed_heap r (Shared ty) = Shared ty
 renamed_heap r (Concrete name) = Concrete (r name)
 renamed_heap r (Exact name) = Exact (r name)
 

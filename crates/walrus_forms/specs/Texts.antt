@@ -4,7 +4,7 @@ use Rattle.std.specs.Fmt.{decimal}
 use Rattle.walrus_forms.specs.declared.value.AbstractHeapType.{AbstractHeapType}
 use Rattle.walrus_forms.specs.declared.value.AbstractHeapType.TheVariants as kinds
 use Rattle.walrus_forms.specs.declared.value.HeapType.{HeapType}
-use Rattle.walrus_forms.specs.declared.value.HeapType.TheVariants.{Abstract, Concrete, Exact}
+use Rattle.walrus_forms.specs.declared.value.HeapType.TheVariants.{Abstract, Shared, Concrete, Exact}
 use Rattle.walrus_forms.specs.declared.value.RefType.{RefType}
 use Rattle.walrus_forms.specs.declared.value.ValType.{ValType}
 use Rattle.walrus_forms.specs.declared.value.ValType.TheVariants.{I32, I64, F32, F64, V128, Ref}
@@ -26,6 +26,7 @@ abstract_text kinds.NoExn = codes "noexn"
 -- a type that is named is the number of its id
 abbrev pub heap_text : HeapType → List ℕ
 heap_text (Abstract ty) = abstract_text ty
+heap_text (Shared ty) = codes "(shared " ++ abstract_text ty ++ codes ")"
 heap_text (Concrete id) = decimal id
 heap_text (Exact id) = codes "(exact " ++ decimal id ++ codes ")"
 

@@ -7,7 +7,7 @@ use Rattle.std.specs.Ordering.{ordering_then, bool_cmp, nat_cmp}
 use Rattle.walrus_forms.specs.declared.value.AbstractHeapType.{AbstractHeapType}
 use Rattle.walrus_forms.specs.declared.value.AbstractHeapType.TheVariants.{Func, Extern, Any, None, NoExtern, NoFunc, Eq, Struct, Array, I31, Exn, NoExn}
 use Rattle.walrus_forms.specs.declared.value.HeapType.{HeapType}
-use Rattle.walrus_forms.specs.declared.value.HeapType.TheVariants.{Abstract, Concrete, Exact}
+use Rattle.walrus_forms.specs.declared.value.HeapType.TheVariants.{Abstract, Shared, Concrete, Exact}
 use Rattle.walrus_forms.specs.declared.value.RefType.{RefType}
 use Rattle.walrus_forms.specs.declared.value.ValType.{ValType}
 use Rattle.walrus_forms.specs.declared.value.ValType.TheVariants.{I32, I64, F32, F64, V128, Ref}
@@ -30,13 +30,16 @@ abstract_place I31 = 9
 abstract_place Exn = 10
 abstract_place NoExn = 11
 
--- abstract heap types, then types, then exact ones, these by id
+-- abstract heap types, then those that are shared, then types, then exact ones, these by id
 abbrev pub heap_cmp : HeapType → HeapType → Ordering
 heap_cmp (Abstract a) (Abstract b) = nat_cmp (abstract_place a) (abstract_place b)
 heap_cmp (Abstract a) _ = Less
-heap_cmp (Concrete a) (Abstract b) = Greater
+heap_cmp (Shared a) (Abstract b) = Greater
+heap_cmp (Shared a) (Shared b) = nat_cmp (abstract_place a) (abstract_place b)
+heap_cmp (Shared a) _ = Less
 heap_cmp (Concrete a) (Concrete b) = nat_cmp a b
 heap_cmp (Concrete a) (Exact b) = Less
+heap_cmp (Concrete a) _ = Greater
 heap_cmp (Exact a) (Exact b) = nat_cmp a b
 heap_cmp (Exact a) _ = Greater
 

@@ -3,7 +3,7 @@ use Rattle.std.specs.Prelude.{ℕ, true, List, [], ◌∷◌, map, Option, Some,
 use Rattle.walrus_forms.specs.declared.value.AbstractHeapType.{AbstractHeapType}
 use Rattle.walrus_forms.specs.declared.value.AbstractHeapType.TheVariants as kinds
 use Rattle.walrus_forms.specs.declared.value.HeapType.{HeapType}
-use Rattle.walrus_forms.specs.declared.value.HeapType.TheVariants.{Abstract, Concrete, Exact}
+use Rattle.walrus_forms.specs.declared.value.HeapType.TheVariants.{Abstract, Shared, Concrete, Exact}
 use Rattle.walrus_forms.specs.declared.value.RefType.{RefType}
 use Rattle.walrus_forms.specs.declared.value.ValType.{ValType}
 use Rattle.walrus_forms.specs.declared.value.ValType.TheVariants.{I32, Ref}
@@ -30,6 +30,7 @@ unpacked I16 = I32
 -- the type that a heap type names, if it names one
 abbrev pub heap_name : HeapType → Option ℕ
 heap_name (Abstract _) = None
+heap_name (Shared _) = None
 heap_name (Concrete id) = Some id
 heap_name (Exact id) = Some id
 

@@ -30,6 +30,7 @@ impl HeapType {
     {
         match self {
             HeapType::Abstract(ty) => HeapRecord::Abstract(ty),
+            HeapType::Shared(ty) => HeapRecord::Shared(ty),
             HeapType::Concrete(id) => HeapRecord::Concrete(index_of(indices, id)),
             HeapType::Exact(id) => HeapRecord::Exact(index_of(indices, id)),
         }

@@ -16,6 +16,8 @@ use walrus_arena::TypeId;
 #[derive(Clone, Copy, PartialEq, Eq)]
 pub enum HeapRecord {
     Abstract(AbstractHeapType),
+    /// The same among what threads share.
+    Shared(AbstractHeapType),
     /// Values of the type of this index and of its subtypes.
     Concrete(u32),
     /// Values of the type of this index alone.
@@ -95,7 +97,7 @@ impl HeapRecord {
         ensures { result ≡ heap_name (heap_of self.now) }
     {
         match self {
-            HeapRecord::Abstract(_) => None,
+            HeapRecord::Abstract(_) | HeapRecord::Shared(_) => None,
             HeapRecord::Concrete(index) | HeapRecord::Exact(index) => Some(*index),
         }
     }
@@ -108,6 +110,7 @@ impl HeapRecord {
     {
         match self {
             HeapRecord::Abstract(ty) => HeapType::Abstract(ty),
+            HeapRecord::Shared(ty) => HeapType::Shared(ty),
             HeapRecord::Concrete(index) => HeapType::Concrete(ids[index as usize]),
             HeapRecord::Exact(index) => HeapType::Exact(ids[index as usize]),
         }

@@ -36,13 +36,14 @@ impl fmt::Display for AbstractHeapType {
     }
 }
 
-/// Writes an abstract type's name; the number of a type's id, or in `(exact ..)`.
+/// Writes an abstract type's name, in `(shared ..)` where it is shared; the number of a type's id, or in `(exact ..)`.
 impl fmt::Display for HeapType {
     ghost output = { λ ty. Some (heap_text ty) };
 
     fn fmt<W: fmt::Write>(&self, f: &mut fmt::Formatter<W>) -> fmt::Result {
         match self {
             HeapType::Abstract(ty) => write!(f, "{ty}"),
+            HeapType::Shared(ty) => write!(f, "(shared {ty})"),
             HeapType::Concrete(id) => write!(f, "{}", id.index()),
             HeapType::Exact(id) => write!(f, "(exact {})", id.index()),
         }

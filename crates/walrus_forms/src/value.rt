@@ -25,6 +25,8 @@ pub enum AbstractHeapType {
 #[derive(Clone, Copy, PartialEq, Eq, PartialOrd, Ord, Hash)]
 pub enum HeapType {
     Abstract(AbstractHeapType),
+    /// The same among what threads share (the proposal of shared-everything threads).
+    Shared(AbstractHeapType),
     /// Values of this type and of its subtypes.
     Concrete(TypeId),
     /// Values of this type alone.
@@ -44,7 +46,7 @@ impl HeapType {
         ensures { result ≡ heap_name self.now }
     {
         match self {
-            HeapType::Abstract(_) => None,
+            HeapType::Abstract(_) | HeapType::Shared(_) => None,
             HeapType::Concrete(id) | HeapType::Exact(id) => Some(*id),
         }
     }

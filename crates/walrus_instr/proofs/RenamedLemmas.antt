@@ -3,7 +3,7 @@ use Rattle.std.proofs.Common.{◌≡◌, ◌∙◌, ℕ, All, List, [], ◌∷�
 use Rattle.std.proofs.lemmas.List.{length-map, with_items_is}
 use Rattle.std.proofs.lemmas.List.Elements.{All-head, All-tail}
 use Rattle.walrus_types.specs.walrus_forms.declared.value.HeapType.{HeapType}
-use Rattle.walrus_types.specs.walrus_forms.declared.value.HeapType.TheVariants.{Abstract, Concrete, Exact}
+use Rattle.walrus_types.specs.walrus_forms.declared.value.HeapType.TheVariants.{Abstract, Shared, Concrete, Exact}
 use Rattle.walrus_types.specs.walrus_forms.Values.{heap_name}
 use Rattle.walrus_types.specs.walrus_forms.Renaming.{renamed_heap}
 use Rattle.walrus_instr.specs.declared.instr.Value.{Value as Constant}
@@ -30,6 +30,7 @@ ops_are_renamed r (Extended ops) = with_items_is ops (map (renamed_op r) ops.ite
 
 heap_back : (back there : ℕ → ℕ) (ty : HeapType) → IfSome (heap_name ty) (λ name. back (there name) ≡ name) → renamed_heap back (renamed_heap there ty) ≡ ty
 heap_back back there (Abstract ty) h = refl
+heap_back back there (Shared ty) h = refl
 heap_back back there (Concrete name) h = ap Concrete h
 heap_back back there (Exact name) h = ap Exact h
 

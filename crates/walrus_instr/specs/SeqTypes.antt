@@ -27,6 +27,7 @@ typed forms.F32 nullable heap id = Simple (Some values.F32)
 typed forms.F64 nullable heap id = Simple (Some values.F64)
 typed forms.V128 nullable heap id = Simple (Some values.V128)
 typed forms.Abstract nullable heap id = reference nullable (heaps.Abstract heap)
+typed forms.Shared nullable heap id = reference nullable (heaps.Shared heap)
 typed forms.Concrete nullable heap id = reference nullable (heaps.Concrete id)
 typed forms.Exact nullable heap id = reference nullable (heaps.Exact id)
 typed forms.Function nullable heap id = MultiValue id
@@ -37,6 +38,7 @@ seq_type a = typed a.form a.nullable a.heap a.id
 
 abbrev reference_parts : Bool → HeapType → Inside
 reference_parts nullable (heaps.Abstract heap) = record { id = 0; form = forms.Abstract; nullable = nullable; heap = heap }
+reference_parts nullable (heaps.Shared heap) = record { id = 0; form = forms.Shared; nullable = nullable; heap = heap }
 reference_parts nullable (heaps.Concrete id) = record { id = id; form = forms.Concrete; nullable = nullable; heap = Func }
 reference_parts nullable (heaps.Exact id) = record { id = id; form = forms.Exact; nullable = nullable; heap = Func }
 

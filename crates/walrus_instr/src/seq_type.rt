@@ -19,6 +19,7 @@ enum Form {
     F64,
     V128,
     Abstract,
+    Shared,
     Concrete,
     Exact,
     Function,
@@ -80,6 +81,7 @@ impl SeqType {
             Form::F64 => InstrSeqType::Simple(Some(ValType::F64)),
             Form::V128 => InstrSeqType::Simple(Some(ValType::V128)),
             Form::Abstract => reference(self.nullable, HeapType::Abstract(self.heap)),
+            Form::Shared => reference(self.nullable, HeapType::Shared(self.heap)),
             Form::Concrete => reference(self.nullable, HeapType::Concrete(self.id)),
             Form::Exact => reference(self.nullable, HeapType::Exact(self.id)),
             Form::Function => InstrSeqType::MultiValue(self.id),
@@ -119,6 +121,12 @@ impl SeqType {
             HeapType::Abstract(heap) => SeqType {
                 id: TypeId::from_index(0),
                 form: Form::Abstract,
+                nullable,
+                heap,
+            },
+            HeapType::Shared(heap) => SeqType {
+                id: TypeId::from_index(0),
+                form: Form::Shared,
                 nullable,
                 heap,
             },

@@ -11,7 +11,7 @@ use Rattle.wasm_operators.specs.declared.op_code.OpCode.{OpCode}
 use Rattle.wasm_operators.specs.Operators.{Seen}
 use Rattle.walrus_pairing.specs.wasm_operators.Names.{heap_names, value_names, operator_names}
 use Rattle.walrus_forms.specs.declared.value.HeapType.{HeapType}
-use Rattle.walrus_forms.specs.declared.value.HeapType.TheVariants.{Abstract, Concrete, Exact}
+use Rattle.walrus_forms.specs.declared.value.HeapType.TheVariants.{Abstract, Shared, Concrete, Exact}
 use Rattle.walrus_forms.specs.declared.value.RefType.{RefType}
 use Rattle.walrus_forms.specs.declared.value.ValType.{ValType}
 use Rattle.walrus_forms.specs.declared.value.ValType.TheVariants.{I32, I64, F32, F64, V128, Ref}
@@ -39,6 +39,7 @@ as_told i code items s told e = subst (SameNames i) (some_is (seen_of code items
 
 heap_told : (nullable : Bool) (h : HeapType) (w : WrittenHeap) → written_heap (all Types) h ≡ Ok w → told_all (ref_names (record { nullable = nullable; heap_type = h })) ≡ heap_names w
 heap_told nullable (Abstract kind) w e = subst (λ x. [] ≡ heap_names x) (ok_is _ w e) refl
+heap_told nullable (Shared kind) w e = subst (λ x. [] ≡ heap_names x) (ok_is _ w e) refl
 heap_told nullable (Concrete id) w e = subst (λ x. (Types, id) ∷ [] ≡ heap_names x) (ok_is _ w e) refl
 heap_told nullable (Exact id) w e = subst (λ x. (Types, id) ∷ [] ≡ heap_names x) (ok_is _ w e) refl
 

@@ -9,7 +9,7 @@ use Rattle.walrus_arena.specs.Arena.{item_at}
 use Rattle.walrus_forms.specs.declared.value.AbstractHeapType.{AbstractHeapType}
 use Rattle.walrus_forms.specs.declared.value.AbstractHeapType.TheVariants as kinds
 use Rattle.walrus_forms.specs.declared.value.HeapType.{HeapType}
-use Rattle.walrus_forms.specs.declared.value.HeapType.TheVariants.{Abstract, Concrete, Exact}
+use Rattle.walrus_forms.specs.declared.value.HeapType.TheVariants.{Abstract, Shared, Concrete, Exact}
 use Rattle.walrus_forms.specs.declared.value.ValType.{ValType}
 use Rattle.walrus_forms.specs.declared.value.ValType.TheVariants.{I32, I64, F32, F64, V128, Ref}
 use Rattle.walrus_forms.specs.Forms.{Form, FunctionForm, StructForm, ArrayForm}
@@ -76,6 +76,7 @@ value_read ids (Ref ty) below = go ty.nullable ty.heap_type below
     go : (nullable : Bool) (heap : HeapType) → HeapBelow (length ids) heap
         → (let own : ValType = Ref (record { nullable = nullable; heap_type = heap }) in read_value (slice_get ids) (value_from own) ≡ Ok (renamed_value (at ids) own))
     go nullable (Abstract ty) below = rw (abstract_read ty) refl
+    go nullable (Shared ty) below = rw (abstract_read ty) refl
     go nullable (Concrete n) below = rw (at_index ids n below) refl
     go nullable (Exact n) below = rw (at_index ids n below) refl
 

@@ -146,9 +146,9 @@ equal_below kind t found e = go (names_itself (next_id t) kind) e
 
 added_orderly : (explicit : Bool) (kinds : List Kind) (s : Parsed) → IsOrderly s → IsOrderly (added explicit kinds s)
 added_orderly true kinds s h = group_orderly true kinds s h
-added_orderly false [] s h = group_orderly false [] s h
+added_orderly false [] s h = group_orderly true [] s h
 added_orderly false (kind ∷ []) s h = merged_orderly (equal_type kind s.table) kind s (equal_below kind s.table) h
-added_orderly false (kind ∷ (k ∷ ks)) s h = group_orderly false (kind ∷ (k ∷ ks)) s h
+added_orderly false (kind ∷ (k ∷ ks)) s h = group_orderly true (kind ∷ (k ∷ ks)) s h
 
 all_orderly : (groups : List TypeGroup) (s : Parsed) → IsOrderly s → IsOrderly (parsed groups s)
 all_orderly [] s h = h

@@ -21,9 +21,10 @@ use Rattle.wasm_operators.specs.Table.{find_code, structure_rows, call_rows, pla
 use Rattle.wasm_operators.specs.Kinds.{forms}
 use Rattle.wasm_operators.specs.Operators.{op_code}
 use Rattle.wasm_operators.specs.Ranges.{ItemFits, ItemsFit}
+use Rattle.walrus_forms.specs.declared.value.AbstractHeapType.{AbstractHeapType}
 use Rattle.walrus_forms.specs.declared.value.AbstractHeapType.TheVariants as types
 use Rattle.walrus_forms.specs.declared.value.HeapType.{HeapType}
-use Rattle.walrus_forms.specs.declared.value.HeapType.TheVariants.{Abstract, Concrete, Exact}
+use Rattle.walrus_forms.specs.declared.value.HeapType.TheVariants.{Abstract, Shared, Concrete, Exact}
 use Rattle.walrus_forms.specs.declared.value.ValType.{ValType}
 use Rattle.walrus_forms.specs.declared.value.ValType.TheVariants.{I32, I64, F32, F64, V128, Ref}
 use Rattle.walrus_instr.specs.declared.instr.Value.TheVariants as constants
@@ -44,7 +45,7 @@ use Rattle.walrus_pairing.proofs.Kept.{entry_of}
 
 -- ---- types
 
-abstract_held : (ty : WrittenAbstract) → is_continuation ty ≡ false → (h : HeapType) × ((read_abstract ty >>= λ kind. Ok (Abstract kind)) ≡ Ok h)
+abstract_held : (ty : WrittenAbstract) → is_continuation ty ≡ false → (kind : AbstractHeapType) × (read_abstract ty ≡ Ok kind)
 abstract_held abstracts.Func e = (_, refl)
 abstract_held abstracts.Extern e = (_, refl)
 abstract_held abstracts.Any e = (_, refl)
@@ -62,8 +63,8 @@ abstract_held abstracts.NoCont e = absurd cc
 
 module _ (look : Look) where
   heap_held : (ty : WrittenHeap) → IsHeapHeld look ty → (h : HeapType) × (read_heap (look Types) ty ≡ Ok h)
-  heap_held (WAbstract true ty) held = absurd (let e = held.0 in cc)
-  heap_held (WAbstract false ty) held = abstract_held ty held.1
+  heap_held (WAbstract false ty) held = let kind = abstract_held ty held in (Abstract kind.0, rw kind.1 refl)
+  heap_held (WAbstract true ty) held = let kind = abstract_held ty held in (Shared kind.0, rw kind.1 refl)
   heap_held (WConcrete (Module n)) held = (Concrete held.0, rw held.1 refl)
   heap_held (WConcrete (RecGroup n)) held = absurd held
   heap_held (WConcrete (Id id)) held = absurd held

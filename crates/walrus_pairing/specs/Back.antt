@@ -6,7 +6,7 @@ use Rattle.wasm_operators.specs.Items.{Space, Types, Functions, Tables, Memories
 use Rattle.wasm_operators.specs.declared.op_code.OpCode.{OpCode}
 use Rattle.wasm_operators.specs.Operators.{Seen}
 use Rattle.walrus_forms.specs.declared.value.HeapType.{HeapType}
-use Rattle.walrus_forms.specs.declared.value.HeapType.TheVariants.{Abstract, Concrete, Exact}
+use Rattle.walrus_forms.specs.declared.value.HeapType.TheVariants.{Abstract, Shared, Concrete, Exact}
 use Rattle.walrus_forms.specs.declared.value.AbstractHeapType.{AbstractHeapType}
 use Rattle.walrus_forms.specs.declared.value.AbstractHeapType.TheVariants as kinds
 use Rattle.walrus_instr.specs.declared.memory.MemArg.{MemArg}
@@ -52,7 +52,7 @@ cast_at : (b : Bool) (h : HeapType) → heap_at (cast_code b) h ≡ Some (instrs
 cast_at true h = refl
 cast_at false h = refl
 
-abstract_again : (kind : AbstractHeapType) → (read_abstract (written_abstract kind) >>= λ k. Ok (Abstract k)) ≡ Ok (Abstract kind)
+abstract_again : (kind : AbstractHeapType) → read_abstract (written_abstract kind) ≡ Ok kind
 abstract_again kinds.Func = refl
 abstract_again kinds.Extern = refl
 abstract_again kinds.Any = refl
@@ -240,7 +240,8 @@ module _ (there back : Look) (undoes : Undoes there back) where
   variable_back _ s e = absurd cc
 
   pub read_again : (ty : HeapType) (h : WrittenHeap) → written_heap (there Types) ty ≡ Ok h → read_heap (back Types) h ≡ Ok ty
-  read_again (Abstract kind) h e = subst (λ w. read_heap (back Types) w ≡ Ok (Abstract kind)) (ok_is _ h e) (abstract_again kind)
+  read_again (Abstract kind) h e = subst (λ w. read_heap (back Types) w ≡ Ok (Abstract kind)) (ok_is _ h e) (rw (abstract_again kind) refl)
+  read_again (Shared kind) h e = subst (λ w. read_heap (back Types) w ≡ Ok (Shared kind)) (ok_is _ h e) (rw (abstract_again kind) refl)
   read_again (Concrete id) h e =
       let g = found_is Types id (λ n. Ok (WConcrete (Module n))) h e in
       subst (λ w. read_heap (back Types) w ≡ Ok (Concrete id)) (ok_is _ h g.2) (rw (undoes Types id g.0 g.1) refl)

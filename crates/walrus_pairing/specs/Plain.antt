@@ -63,9 +63,9 @@ IsIndexHeld look (Module n) = IsFound look Types n
 IsIndexHeld look (RecGroup n) = ⊥
 IsIndexHeld look (Id id) = ⊥
 
--- a type that isn't shared and is no continuation's, or a name that is found
+-- a type that is no continuation's, or a name that is found
 abbrev pub IsHeapHeld : Look → HeapType → Type 0
-IsHeapHeld look (Abstract shared ty) = (shared ≡ false) × (is_continuation ty ≡ false)
+IsHeapHeld look (Abstract shared ty) = is_continuation ty ≡ false
 IsHeapHeld look (Concrete index) = IsIndexHeld look index
 IsHeapHeld look (Exact index) = IsIndexHeld look index
 

@@ -9,7 +9,7 @@ use Rattle.wasm_operators.specs.Items.{Types, Functions, Tables, Memories, Tags,
 use Rattle.wasm_operators.specs.declared.op_code.OpCode.{OpCode}
 use Rattle.wasm_operators.specs.Operators.{Seen}
 use Rattle.walrus_forms.specs.declared.value.HeapType.{HeapType}
-use Rattle.walrus_forms.specs.declared.value.HeapType.TheVariants.{Abstract, Concrete, Exact}
+use Rattle.walrus_forms.specs.declared.value.HeapType.TheVariants.{Abstract, Shared, Concrete, Exact}
 use Rattle.walrus_forms.specs.declared.value.ValType.{ValType}
 use Rattle.walrus_forms.specs.declared.value.ValType.TheVariants.{I32, I64, F32, F64, V128, Ref}
 use Rattle.walrus_instr.specs.declared.instr.Instr.{Instr}
@@ -26,7 +26,7 @@ use Rattle.walrus_pairing.specs.Types.{written_heap, written_value, written_abst
 use Rattle.walrus_pairing.specs.Write.{seen_of, op, either, of_code, bare_code, numeric, variable, memory_op, object_op, plain_at, select, operator_at, lane_items, access_of, test_code, cast_code, one, two, counted, access, heap}
 use Rattle.walrus_pairing.specs.Back.{some_is, ok_is}
 use Rattle.walrus_pairing.specs.Together.{either_is}
-use Rattle.std.specs.Prelude.{ℕ, ◌≡◌, List, [], ◌∷◌, map, Option, Some, None, Ok, Err, if◌then◌else◌, refl, false}
+use Rattle.std.specs.Prelude.{ℕ, ◌≡◌, List, [], ◌∷◌, map, Option, Some, None, Ok, Err, if◌then◌else◌, refl, true, false}
 use Rattle.wasm_operators.specs.Names.{Renaming, renamed_heap, renamed_value, renamed_item}
 use Rattle.walrus_pairing.specs.Sends.{Sends, IsSent, OperatorsAreSent}
 use Rattle.walrus_pairing.specs.Laws.{all}
@@ -83,6 +83,7 @@ module _ (r : Renaming) (look : Look) (sends : Sends r look) where
 
   pub heap_as : (ty : HeapType) (w : WrittenHeap) → written_heap (look Types) ty ≡ Ok w → HeapSent ty w
   heap_as (Abstract kind) w e = (WAbstract false (written_abstract kind), refl, ok_is _ w e)
+  heap_as (Shared kind) w e = (WAbstract true (written_abstract kind), refl, ok_is _ w e)
   heap_as (Concrete id) w e = (WConcrete (Module id), refl, ok_is (WConcrete (Module (r Types id))) w (found_as Types id (λ n. Ok (WConcrete (Module n))) w e))
   heap_as (Exact id) w e = (WExact (Module id), refl, ok_is (WExact (Module (r Types id))) w (found_as Types id (λ n. Ok (WExact (Module n))) w e))
 

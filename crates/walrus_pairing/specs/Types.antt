@@ -13,7 +13,7 @@ use Rattle.wasm_ref_types.specs.Reference.{reference}
 use Rattle.walrus_forms.specs.declared.value.AbstractHeapType.{AbstractHeapType}
 use Rattle.walrus_forms.specs.declared.value.AbstractHeapType.TheVariants as kinds
 use Rattle.walrus_forms.specs.declared.value.HeapType.{HeapType}
-use Rattle.walrus_forms.specs.declared.value.HeapType.TheVariants.{Abstract, Concrete, Exact}
+use Rattle.walrus_forms.specs.declared.value.HeapType.TheVariants.{Abstract, Shared, Concrete, Exact}
 use Rattle.walrus_forms.specs.declared.value.ValType.{ValType}
 use Rattle.walrus_forms.specs.declared.value.ValType.TheVariants.{I32, I64, F32, F64, V128, Ref}
 use Rattle.walrus_index_maps.specs.declared.space.Space.TheVariants as spaces
@@ -42,6 +42,7 @@ written_abstract kinds.NoExn = written.NoExn
 
 abbrev pub written_heap : (ℕ → Option ℕ) → HeapType → Or WrittenHeap
 written_heap types (Abstract ty) = Ok (WAbstract false (written_abstract ty))
+written_heap types (Shared ty) = Ok (WAbstract true (written_abstract ty))
 written_heap types (Concrete id) = type_of types id >>= λ n. Ok (WConcrete (Module n))
 written_heap types (Exact id) = type_of types id >>= λ n. Ok (WExact (Module n))
 
@@ -78,8 +79,8 @@ read_index types (RecGroup n) = Err (errors.Unknown spaces.«Type»)
 read_index types (Id id) = Err (errors.Unknown spaces.«Type»)
 
 abbrev pub read_heap : (ℕ → Option ℕ) → WrittenHeap → Or HeapType
-read_heap types (WAbstract true ty) = Err errors.SharedType
 read_heap types (WAbstract false ty) = read_abstract ty >>= λ kind. Ok (Abstract kind)
+read_heap types (WAbstract true ty) = read_abstract ty >>= λ kind. Ok (Shared kind)
 read_heap types (WConcrete index) = read_index types index >>= λ id. Ok (Concrete id)
 read_heap types (WExact index) = read_index types index >>= λ id. Ok (Exact id)
 

@@ -8,8 +8,6 @@ use walrus_index_maps::{Space, UnknownIndex};
 pub enum PairError {
     /// An index names nothing, or an id has no number.
     Unknown(Space),
-    /// A shared heap type.
-    SharedType,
     /// A heap type of continuations.
     ContinuationType,
     /// A `select` of more value types than one, or of none.

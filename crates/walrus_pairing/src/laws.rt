@@ -17,8 +17,8 @@ pub fn operators_are_told()
 {}
 
 /// Each operator of the table that has a spelling has an instruction of its own, unless it holds a label or a block's type, or is `nop`
-/// or what parts or ends blocks: where its names are found, its alignment is at most 2^31, its heap type is neither shared nor a
-/// continuation's, and a `select` has one type.
+/// or what parts or ends blocks: where its names are found, its alignment is at most 2^31, its heap type is no continuation's,
+/// and a `select` has one type.
 pub fn plain_operators_are_read()
     ensures { PlainIsRead }
 {}

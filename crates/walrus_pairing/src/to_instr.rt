@@ -94,8 +94,8 @@ fn rare_instr(op: &Operator, function: FunctionId, maps: &IndicesToIds) -> Read
 ///
 /// # Errors
 ///
-/// `Unknown` where an index names nothing: the first in the order of the immediates. Else `SharedType`, `ContinuationType`, `Select`
-/// and `Alignment`.
+/// `Unknown` where an index names nothing: the first in the order of the immediates. Else `ContinuationType`, `Select` and
+/// `Alignment`.
 #[inline(always)]
 pub fn instr_of(op: &Operator, function: FunctionId, maps: &IndicesToIds) -> Read
     ensures { result ≡ instr_at (id_of (ids maps.now) function) (seen op.now) }

@@ -54,6 +54,10 @@ pub fn write_heap(ty: HeapType, maps: &IdsToIndices) -> Result<written::HeapType
             shared: false,
             ty: write_abstract(ty),
         }),
+        HeapType::Shared(ty) => Ok(written::HeapType::Abstract {
+            shared: true,
+            ty: write_abstract(ty),
+        }),
         HeapType::Concrete(id) => {
             let number = got!(type_number(maps, id));
             Ok(written::HeapType::Concrete(UnpackedIndex::Module(number)))
@@ -129,12 +133,15 @@ fn type_at(index: UnpackedIndex, maps: &IndicesToIds) -> Result<TypeId, PairErro
 ///
 /// # Errors
 ///
-/// `Unknown` where it names no type, `SharedType`, `ContinuationType`.
+/// `Unknown` where it names no type, `ContinuationType`.
 pub fn read_heap(ty: written::HeapType, maps: &IndicesToIds) -> Result<HeapType, PairError>
     ensures { result ≡ read_heap (slice_get (ids maps.now).types) ty }
 {
     match ty {
-        written::HeapType::Abstract { shared: true, .. } => Err(PairError::SharedType),
+        written::HeapType::Abstract { shared: true, ty } => {
+            let ty = got!(abstract_type(ty));
+            Ok(HeapType::Shared(ty))
+        }
         written::HeapType::Abstract { shared: false, ty } => {
             let ty = got!(abstract_type(ty));
             Ok(HeapType::Abstract(ty))
@@ -154,7 +161,7 @@ pub fn read_heap(ty: written::HeapType, maps: &IndicesToIds) -> Result<HeapType,
 ///
 /// # Errors
 ///
-/// `Unknown` where it names no type, `SharedType`, `ContinuationType`.
+/// `Unknown` where it names no type, `ContinuationType`.
 pub fn read_value(ty: written::ValType, maps: &IndicesToIds) -> Result<ValType, PairError>
     ensures { result ≡ read_value (slice_get (ids maps.now).types) ty }
 {

@@ -1,5 +1,5 @@
 -- Why a file is refused, and where (Core Specification, binary format: modules).
-use Rattle.std.specs.Prelude.{ℕ, ◌^◌, ◌<◌, ◌≡◌, ◌⊎◌, List, length}
+use Rattle.std.specs.Prelude.{ℕ, ◌^◌, ◌<◌, ◌≡◌, ◌⊎◌, List, length, Some}
 use Rattle.walrus_named_bodies.specs.walrus_item_names.walrus_module.walrus_body_writer.walrus_pairing.wasm_operators.wasm_features.declared.WasmFeatures.{WasmFeatures}
 use Rattle.walrus_named_bodies.specs.walrus_item_names.walrus_module.walrus_local_function.walrus_body_locals.walrus_body_nesting.wasm_formats.Stops.{Trouble, Read, Header, SectionOrder, SectionSize, Count, Index, TypeForm, ConstExpr, OffsetType, Nesting, Position, Operator, Unsupported, DuplicateExport, Bounds, Limit}
 use Rattle.walrus_errors.specs.declared.error.ModuleError.{ModuleError}
@@ -22,7 +22,7 @@ refusal OffsetType place = errors.OffsetType place
 refusal Nesting place = errors.Nesting place
 refusal Position place = errors.Position place
 refusal Operator place = errors.Operator place
-refusal (Unsupported form) place = errors.Unsupported form place
+refusal (Unsupported form) place = errors.Unsupported form (Some place)
 refusal DuplicateExport place = errors.DuplicateExport place
 refusal Bounds place = errors.Bounds place
 refusal (Limit of) place = errors.Limit of place

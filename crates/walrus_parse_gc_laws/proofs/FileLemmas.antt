@@ -99,9 +99,9 @@ merged_stays None kind s e h below = grouped_stays (kind ∷ []) s h (below, tt)
 
 added_stays : (explicit : Bool) (kinds : List Kind) (s : Parsed) → Stays s → AllOf (NamesSo (λ name. name < next_id s.table + length kinds)) kinds → Stays (added explicit kinds s)
 added_stays true kinds s h below = grouped_stays kinds s h below true
-added_stays false [] s h below = grouped_stays [] s h below false
+added_stays false [] s h below = grouped_stays [] s h below true
 added_stays false (kind ∷ []) s h below = merged_stays (equal_type kind s.table) kind s refl h below.0
-added_stays false (a ∷ b ∷ kinds) s h below = grouped_stays (a ∷ b ∷ kinds) s h below false
+added_stays false (a ∷ b ∷ kinds) s h below = grouped_stays (a ∷ b ∷ kinds) s h below true
 
 all_stay : (groups : List TypeGroup) (s : Parsed) → Stays s → Stays (parsed groups s)
 all_stay [] s h = h

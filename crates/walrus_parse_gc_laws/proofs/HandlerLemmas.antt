@@ -119,7 +119,11 @@ module _ (total : ℕ) (Good : Name → Type 0) (types_are : (n : ℕ) → Good 
       by : (o : Option AbstractHeapType) → IfSome (option_map heaps.Abstract o) (HeapBelow total)
       by None = tt
       by (Some x) = tt
-  heap_below (Abstract true ty) h = tt
+  heap_below (Abstract true ty) h = shared (abstract_of ty)
+    where
+      shared : (o : Option AbstractHeapType) → IfSome (option_map heaps.Shared o) (HeapBelow total)
+      shared None = tt
+      shared (Some x) = tt
   heap_below (Concrete (Module n)) h = types_are n h.0
   heap_below (Concrete (RecGroup n)) h = tt
   heap_below (Concrete (Id id)) h = tt
@@ -331,6 +335,7 @@ module _ (normal : NormalOperatorsAreRuled) (features : WasmFeatures) (counted :
 module _ (r : ℕ → ℕ) (m n : ℕ) (ids : (k : ℕ) → k < m → r k < n) where
   heap_sent : (ty : HeapType) → HeapBelow m ty → HeapBelow n (renamed_heap r ty)
   heap_sent (heaps.Abstract ty) h = tt
+  heap_sent (heaps.Shared ty) h = tt
   heap_sent (heaps.Concrete k) h = ids k h
   heap_sent (heaps.Exact k) h = ids k h
 

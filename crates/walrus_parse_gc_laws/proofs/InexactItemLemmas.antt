@@ -57,6 +57,7 @@ module _ {A B : Type 0} (see : A → B) (f : B → B) (P : B → Type 0) (exact 
 
 own_false : (ty : HeapType) → InexactWritten (own_heap ty) → heap_exact ty ≡ false
 own_false (heaps.Abstract kind) h = refl
+own_false (heaps.Shared kind) h = refl
 own_false (heaps.Concrete id) h = refl
 own_false (heaps.Exact id) h = absurd h
 

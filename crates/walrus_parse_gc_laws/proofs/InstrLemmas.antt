@@ -50,6 +50,7 @@ told_is x y e = cc
 
 heap_leaf : (code : OpCode) (ty : HeapType) (x : Seen) → either (heap_op all code ty) (Ok None) ≡ Ok (Some x) → InexactOperator x → heap_exact ty ≡ false
 heap_leaf code (heaps.Abstract kind) x e h = refl
+heap_leaf code (heaps.Shared kind) x e h = refl
 heap_leaf code (heaps.Concrete id) x e h = refl
 heap_leaf code (heaps.Exact id) x e h =
     let same : seen_of code (Heap (written.Exact (Module id)) ∷ []) ≡ x = told_is (seen_of code (Heap (written.Exact (Module id)) ∷ [])) x e in
@@ -65,6 +66,7 @@ select_leaf (values.Ref r) x e h = of_heap r.heap_type e
   where
     of_heap : (ty : HeapType) → (written_value (all Types) (values.Ref (record { nullable = r.nullable; heap_type = ty })) >>= λ value. written_op (byte 0x1c) (ManyValues (value ∷ []) ∷ [])) ≡ Ok (Some x) → heap_exact ty ≡ false
     of_heap (heaps.Abstract kind) e = refl
+    of_heap (heaps.Shared kind) e = refl
     of_heap (heaps.Concrete id) e = refl
     of_heap (heaps.Exact id) e =
         let op = seen_of (byte 0x1c) (ManyValues (words.Ref (written_reference r.nullable (written.Exact (Module id))) ∷ []) ∷ []) in

@@ -178,6 +178,7 @@ elements_plain (holds.Expressions ty exprs) = exprs_plain exprs.items
 module _ (decide : NamesDecide) (r s : ℕ → ℕ) (types : ℕ) (same : (n : ℕ) → n < types → r n ≡ s n) where
   heap_alike : (ty : Heap) → HeapBelow types ty → renamed_heap r ty ≡ renamed_heap s ty
   heap_alike (heaps.Abstract ty) h = refl
+  heap_alike (heaps.Shared ty) h = refl
   heap_alike (heaps.Concrete n) h = ap heaps.Concrete (same n h)
   heap_alike (heaps.Exact n) h = ap heaps.Exact (same n h)
 

@@ -109,9 +109,9 @@ merged_plain None kind s h plain = group_plain false (kind ∷ []) s.table (h, t
 
 added_plain : (explicit : Bool) (kinds : List Kind) (s : Parsed) → InexactKinds kinds → IsPlain s.table → IsPlain (added explicit kinds s).table
 added_plain true kinds s h plain = group_plain true kinds s.table h plain
-added_plain false [] s h plain = group_plain false [] s.table h plain
+added_plain false [] s h plain = group_plain true [] s.table h plain
 added_plain false (kind ∷ []) s h plain = merged_plain (equal_type kind s.table) kind s h.0 plain
-added_plain false (a ∷ b ∷ kinds) s h plain = group_plain false (a ∷ b ∷ kinds) s.table h plain
+added_plain false (a ∷ b ∷ kinds) s h plain = group_plain true (a ∷ b ∷ kinds) s.table h plain
 
 all_plain : (groups : List TypeGroup) (s : Parsed) → InexactGroups groups → IsPlain s.table → IsPlain (parsed groups s).table
 all_plain [] s h plain = plain

@@ -41,6 +41,7 @@ any_false test P f (x ∷ xs) h = or_false (test x) (list_any test xs) (f x h.0)
 
 pub heap_false : (ty : HeapType) → InexactHeap ty → heap_exact ty ≡ false
 heap_false (heaps.Abstract kind) h = refl
+heap_false (heaps.Shared kind) h = refl
 heap_false (heaps.Concrete id) h = refl
 heap_false (heaps.Exact id) h = absurd h
 
@@ -65,6 +66,7 @@ form_false (ArrayForm field) h = value_false (unpacked field.element_type) h
 module _ (r : ℕ → ℕ) where
   heap_renamed : (ty : HeapType) → InexactHeap ty → InexactHeap (renamed_heap r ty)
   heap_renamed (heaps.Abstract kind) h = tt
+  heap_renamed (heaps.Shared kind) h = tt
   heap_renamed (heaps.Concrete id) h = tt
   heap_renamed (heaps.Exact id) h = absurd h
 
@@ -154,7 +156,7 @@ module _ {A B : Type 0} where
 
 module _ (types : ℕ → Option ℕ) where
   pub read_inexact : (heap : WrittenHeap) (ty : HeapType) → read_heap types heap ≡ Ok ty → InexactWritten heap → InexactHeap ty
-  read_inexact (written.Abstract true kind) ty e h = absurd cc
+  read_inexact (written.Abstract true kind) ty e h = answered (read_abstract kind) (λ (k : AbstractHeapType). heaps.Shared k) ty e (λ k is same. subst InexactHeap same tt)
   read_inexact (written.Abstract false kind) ty e h = answered (read_abstract kind) (λ (k : AbstractHeapType). heaps.Abstract k) ty e (λ k is same. subst InexactHeap same tt)
   read_inexact (written.Concrete index) ty e h = answered (read_index types index) (λ (id : ℕ). heaps.Concrete id) ty e (λ id is same. subst InexactHeap same tt)
   read_inexact (written.Exact index) ty e h = absurd h

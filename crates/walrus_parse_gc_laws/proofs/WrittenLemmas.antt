@@ -5,7 +5,7 @@ use Rattle.walrus_body_names.specs.walrus_pairing.Looks.{Or, ◌>>=◌}
 use Rattle.walrus_body_names.specs.walrus_pairing.Types.{written_heap, written_value}
 use Rattle.walrus_body_names.specs.walrus_pairing.Write.{bare_code, constant, either, heap, memory_op, numeric, object_op, of_code, operator_at, plain_at, select, variable}
 use Rattle.walrus_body_names.specs.walrus_pairing.walrus_forms.declared.value.HeapType.{HeapType}
-use Rattle.walrus_body_names.specs.walrus_pairing.walrus_forms.declared.value.HeapType.TheVariants.{Abstract, Concrete, Exact}
+use Rattle.walrus_body_names.specs.walrus_pairing.walrus_forms.declared.value.HeapType.TheVariants.{Abstract, Shared, Concrete, Exact}
 use Rattle.walrus_body_names.specs.walrus_pairing.walrus_forms.declared.value.RefType.{RefType}
 use Rattle.walrus_body_names.specs.walrus_pairing.walrus_forms.declared.value.ValType.{ValType}
 use Rattle.walrus_body_names.specs.walrus_pairing.walrus_forms.declared.value.ValType.TheVariants.{I32, I64, F32, F64, V128, Ref}
@@ -45,6 +45,7 @@ then_written (Err e) f h k = absurd h
 
 heap_given : (ty : HeapType) → IsGiven (written_heap (all Types) ty)
 heap_given (Abstract ty) = tt
+heap_given (Shared ty) = tt
 heap_given (Concrete id) = tt
 heap_given (Exact id) = tt
 

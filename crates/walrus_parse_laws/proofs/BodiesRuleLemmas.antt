@@ -28,7 +28,7 @@ use Rattle.walrus_forms.specs.Kinds.{Kind, kind_names}
 use Rattle.walrus_forms.specs.Records.{TypeGroup}
 use Rattle.walrus_forms.specs.Values.{heap_name, value_name}
 use Rattle.walrus_forms.specs.declared.value.HeapType.{HeapType}
-use Rattle.walrus_forms.specs.declared.value.HeapType.TheVariants.{Abstract, Concrete, Exact}
+use Rattle.walrus_forms.specs.declared.value.HeapType.TheVariants.{Abstract, Shared, Concrete, Exact}
 use Rattle.walrus_forms.specs.declared.value.ValType.{ValType}
 use Rattle.walrus_forms.specs.declared.value.ValType.TheVariants.{I32, I64, F32, F64, V128, Ref}
 use Rattle.walrus_parse_laws.proofs.ListLemmas.{AllOf, all_at, all_join}
@@ -98,6 +98,7 @@ groups_below (g ∷ groups) n end le h =
 heap_in : (m : grammar.Module) (nullable : Bool) (heap : HeapType) (rest : List ℕ) → NamesBelow (length (types_of m)) (cons_option (heap_name heap) [] ++ rest)
     → AllOf (NameInRange m) (value_names (value_from (Ref (record { nullable = nullable; heap_type = heap }))))
 heap_in m nullable (Abstract ty) rest h = tt
+heap_in m nullable (Shared ty) rest h = tt
 heap_in m nullable (Concrete n) rest h = (h n (inl refl), tt)
 heap_in m nullable (Exact n) rest h = (h n (inl refl), tt)
 

@@ -16,7 +16,7 @@ use Rattle.walrus_named_bodies.specs.walrus_file_bodies.walrus_items_into.walrus
 use Rattle.walrus_named_bodies.specs.walrus_file_bodies.walrus_items_into.walrus_module_bodies.walrus_body_trees.walrus_meaning.walrus_local_function.walrus_body_locals.wasm_ref_types.declared.index.UnpackedIndex.TheVariants.{Module, RecGroup, Id}
 use Rattle.walrus_named_bodies.specs.walrus_file_bodies.walrus_items_into.walrus_module_bodies.walrus_body_trees.walrus_meaning.walrus_body_writer.walrus_pairing.wasm_operators.Items.{Space, Types, Functions, Globals, Item as Word, Names, Number, S32, S64, Bits, Byte, Bytes, Heap, Block, Access, ManyLabels, ManyValues, ManyClauses}
 use Rattle.walrus_walks.specs.walrus_forms.declared.value.HeapType.{HeapType}
-use Rattle.walrus_walks.specs.walrus_forms.declared.value.HeapType.TheVariants.{Abstract, Concrete, Exact}
+use Rattle.walrus_walks.specs.walrus_forms.declared.value.HeapType.TheVariants.{Abstract, Shared, Concrete, Exact}
 use Rattle.walrus_marks.specs.walrus_instr.Constants.{ops_of}
 use Rattle.walrus_marks.specs.walrus_instr.declared.const_expr.ConstExpr.{ConstExpr}
 use Rattle.walrus_marks.specs.walrus_instr.declared.const_expr.ConstOp.{ConstOp}
@@ -130,6 +130,7 @@ module _ (k : Known) (r : ℕ → ℕ) (P : Item → Type 0) (serves : Serves k 
   heap_served : (nullable : Bool) (heap : HeapType) (words : List Word) → Heap (own_heap heap) ∷ [] ≡ map (renamed_item (by_types r)) words → items_test k words ≡ None
       → AllOf P (items_of (ref_names (record { nullable = nullable; heap_type = heap })))
   heap_served nullable (Abstract ty) words e test = tt
+  heap_served nullable (Shared ty) words e test = tt
   heap_served nullable (Concrete id) words e test =
       let by = heap_by r (own_heap (Concrete id)) [] words e in (concrete id by.0 by.1 by.3 (subst (λ (l : List Word). items_test k l ≡ None) by.2 test), tt)
   heap_served nullable (Exact id) words e test =

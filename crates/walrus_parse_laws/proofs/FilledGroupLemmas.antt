@@ -17,7 +17,7 @@ use Rattle.walrus_named_bodies.specs.walrus_file_bodies.walrus_items_into.walrus
 use Rattle.walrus_named_bodies.specs.walrus_file_bodies.walrus_items_into.walrus_module_bodies.walrus_body_trees.walrus_meaning.walrus_module.walrus_types.Parsing.{Parsed, parsed_group, parsed, unparsed}
 use Rattle.walrus_named_bodies.specs.walrus_file_bodies.walrus_items_into.walrus_functions_into.walrus_types_into.Into.{no_types, NewTypesStand}
 use Rattle.walrus_parse_laws.specs.FilledGroups.{is_new, renamed_group, kept, AreDeclared, GroupsMean}
-use Rattle.walrus_parse_laws.proofs.ParsedLemmas.{AllGiven, IsMerged, IsAdded, step, later_ids, ids_are}
+use Rattle.walrus_parse_laws.proofs.ParsedLemmas.{AllGiven, IsMerged, IsAdded, is_explicit, step, later_ids, ids_are}
 
 -- ---- lists
 
@@ -93,11 +93,11 @@ module _ (t : Table) where
         ∙ ap (λ (l : List Kind). renamed_kind r k ∷ l) (kinds_are own kinds h.1 plain.1)
 
     -- a group that was added
-    added_seen : (marked : Bool) (own : List ℕ) (k : Kind) (kinds : List Kind) → AllZip IsOf own (k ∷ kinds) → AllByRecursion (λ (k : Kind). k.entry ≡ false) (k ∷ kinds)
-        → seen_in (group_slot marked own) ≡ renamed_group r (record { marked = marked; kinds = k ∷ kinds }) ∷ []
-    added_seen marked [] k kinds h plain = absurd h
-    added_seen marked (id ∷ own) k kinds h plain =
-        ap (λ (l : List Kind). filter has_kinds (record { marked = marked; kinds = l } ∷ [])) (kinds_are (id ∷ own) (k ∷ kinds) h plain)
+    added_seen : (explicit : Bool) (own : List ℕ) (k : Kind) (kinds : List Kind) → AllZip IsOf own (k ∷ kinds) → AllByRecursion (λ (k : Kind). k.entry ≡ false) (k ∷ kinds)
+        → seen_in (group_slot explicit own) ≡ record { marked = explicit; kinds = map (renamed_kind r) (k ∷ kinds) } ∷ []
+    added_seen explicit [] k kinds h plain = absurd h
+    added_seen explicit (id ∷ own) k kinds h plain =
+        ap (λ (l : List Kind). filter has_kinds (record { marked = explicit; kinds = l } ∷ [])) (kinds_are (id ∷ own) (k ∷ kinds) h plain)
 
 -- ---- group by group
 
@@ -111,7 +111,7 @@ module _ (t : Table) (ids : List ℕ) where
   if_not false g later e = refl
 
   -- what a group adds is what is kept of it
-  one_group : (marked : Bool) (kinds : List Kind) (own : List ℕ) (groups : List TypeGroup) (s u : Parsed) → length own ≡ length kinds → IsMerged own s u ⊎ IsAdded marked own s u → (more : List ℕ) → ids ≡ s.ids ++ (own ++ more)
+  one_group : (marked : Bool) (kinds : List Kind) (own : List ℕ) (groups : List TypeGroup) (s u : Parsed) → length own ≡ length kinds → IsMerged own s u ⊎ IsAdded (is_explicit marked (length kinds)) own s u → (more : List ℕ) → ids ≡ s.ids ++ (own ++ more)
       → AllZip (IsOf t (at ids)) own kinds → AllByRecursion (λ (k : Kind). k.entry ≡ false) kinds
       → seen_in t u.table.groups ++ kept ids (length s.ids + length kinds) groups ≡ seen_in t s.table.groups ++ kept ids (length s.ids) (record { marked = marked; kinds = kinds } ∷ groups)
   one_group marked [] [] groups s u size (inl h) more e typed plain = let none = h.1 in absurd cc
@@ -128,9 +128,10 @@ module _ (t : Table) (ids : List ℕ) where
       head_is found e = cc
   one_group marked (k ∷ kinds) (id ∷ own) groups s u size (inr h) more e typed plain =
       let later = kept ids (length s.ids + length (k ∷ kinds)) groups in
+      let explicit = is_explicit marked (length (k ∷ kinds)) in
       let own_group = renamed_group (at ids) (record { marked = marked; kinds = k ∷ kinds }) in
       ap (λ (l : List TypeGroup). l ++ later)
-      (ap (seen_in t) h.1 ∙ seen_both t s.table.groups (group_slot marked (id ∷ own)) ∙ ap (λ (l : List TypeGroup). seen_in t s.table.groups ++ l) (added_seen t (at ids) marked (id ∷ own) k kinds typed plain))
+      (ap (seen_in t) h.1 ∙ seen_both t s.table.groups (group_slot explicit (id ∷ own)) ∙ ap (λ (l : List TypeGroup). seen_in t s.table.groups ++ l) (added_seen t (at ids) explicit (id ∷ own) k kinds typed plain))
       ∙ append_assoc (seen_in t s.table.groups) (own_group ∷ []) later
       ∙ ap (λ (l : List TypeGroup). seen_in t s.table.groups ++ l) (sym (if_kept (is_new ids (length s.ids)) own_group later (new_is s.ids id (own ++ more) ids e ∙ ap not h.0)))
 

@@ -55,9 +55,9 @@ merged_closed None kind s h = group_closed false (kind ∷ []) s.table h
 
 added_closed : (marked : Bool) (kinds : List Kind) (s : Parsed) → IsClosed s.table → IsClosed (added marked kinds s).table
 added_closed true kinds s h = group_closed true kinds s.table h
-added_closed false [] s h = group_closed false [] s.table h
+added_closed false [] s h = group_closed true [] s.table h
 added_closed false (kind ∷ []) s h = merged_closed (equal_type kind s.table) kind s h
-added_closed false (a ∷ b ∷ kinds) s h = group_closed false (a ∷ b ∷ kinds) s.table h
+added_closed false (a ∷ b ∷ kinds) s h = group_closed true (a ∷ b ∷ kinds) s.table h
 
 all_closed : (groups : List TypeGroup) (s : Parsed) → IsClosed s.table → IsClosed (parsed groups s).table
 all_closed [] s h = h

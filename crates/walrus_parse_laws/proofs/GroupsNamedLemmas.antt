@@ -1,6 +1,6 @@
 -- Lemmas: what a body's handlers take and give, as its reader sees it, is what its file says, each type sent to its id.
-use Rattle.std.proofs.Common.{◌≡◌, ◌∙◌, ℕ, zero, suc, ◌<◌, ◌+◌, Bool, true, false, List, [], ◌∷◌, ◌++◌, length, map, Option, Some, None, Ok, Err, refl, sym, ap, subst, arith, if◌then◌else◌}
-use Rattle.std.specs.Prelude.{MatchOption, slice_get, slice_index_or}
+use Rattle.std.proofs.Common.{◌≡◌, ◌∙◌, ℕ, zero, suc, ◌<◌, ◌+◌, Bool, true, false, List, [], ◌∷◌, ◌++◌, length, map, Option, Some, None, Ok, Err, refl, sym, ap, subst, arith, inl, inr, if◌then◌else◌}
+use Rattle.std.specs.Prelude.{◌⊎◌, MatchOption, slice_get, slice_index_or}
 use Rattle.std.specs.Option.{option_and_then, option_map, option_or}
 use Rattle.std.proofs.lemmas.List.{map-append}
 use Rattle.std.proofs.lemmas.Option.{slice_get_within}
@@ -11,9 +11,10 @@ use Rattle.walrus_forms.specs.Forms.{Form, FunctionForm, StructForm, ArrayForm}
 use Rattle.walrus_forms.specs.Kinds.{Kind, function_kind}
 use Rattle.walrus_forms.specs.Renaming.{at, renamed_form, renamed_heap, renamed_value}
 use Rattle.walrus_forms.specs.Same.{same_kind}
+use Rattle.walrus_forms.specs.declared.value.AbstractHeapType.{AbstractHeapType}
 use Rattle.walrus_forms.specs.declared.value.AbstractHeapType.TheVariants as into
 use Rattle.walrus_forms.specs.declared.value.HeapType.{HeapType}
-use Rattle.walrus_forms.specs.declared.value.HeapType.TheVariants.{Abstract, Concrete, Exact}
+use Rattle.walrus_forms.specs.declared.value.HeapType.TheVariants.{Abstract, Shared, Concrete, Exact}
 use Rattle.walrus_forms.specs.declared.value.ValType.{ValType}
 use Rattle.walrus_forms.specs.declared.value.ValType.TheVariants.{I32, I64, F32, F64, V128, Ref}
 use Rattle.walrus_function_types.specs.FunctionTypes.{form_params, form_results, params_at, results_at}
@@ -21,9 +22,10 @@ use Rattle.walrus_named_bodies.specs.walrus_file_bodies.walrus_items_into.walrus
 use Rattle.walrus_named_bodies.specs.walrus_file_bodies.walrus_items_into.walrus_module_env.walrus_handler_types.walrus_handler_laws.walrus_body_steps.walrus_body_nesting.Stands.{Ended, Finish, Handles, HandlesAll, Otherwise, Part, StandsAs, Turn, lies, none, with}
 use Rattle.walrus_named_bodies.specs.walrus_file_bodies.walrus_items_into.walrus_module_env.walrus_handler_types.walrus_handler_laws.walrus_body_steps.walrus_body_rules.Sights.{Sight, block_of, function_block, look, results_of, tag_params, value_block, written_block}
 use Rattle.walrus_named_bodies.specs.walrus_file_bodies.walrus_items_into.walrus_module_env.walrus_handler_types.walrus_handler_laws.walrus_body_steps.wasm_grammar.Modules as grammar
-use Rattle.walrus_named_bodies.specs.walrus_file_bodies.walrus_items_into.walrus_module_env.walrus_handler_types.walrus_handler_laws.walrus_body_steps.wasm_grammar.TypeWords.{heap_of, value_of}
+use Rattle.walrus_named_bodies.specs.walrus_file_bodies.walrus_items_into.walrus_module_env.walrus_handler_types.walrus_handler_laws.walrus_body_steps.wasm_grammar.TypeWords.{abstract_of, heap_of, value_of}
 use Rattle.walrus_named_bodies.specs.walrus_file_bodies.walrus_items_into.walrus_module_env.walrus_handler_types.walrus_handler_laws.walrus_body_steps.wasm_normal_form.Trees.{Tree as OpTree, Close, Arm, Skip, Run, Nest}
-use Rattle.walrus_body_laws.specs.walrus_pairing.Types.{read_heap, read_value}
+use Rattle.walrus_body_laws.specs.walrus_pairing.Types.{read_abstract, read_heap, read_value}
+use Rattle.walrus_body_laws.specs.walrus_pairing.declared.error.PairError.TheVariants as errors
 use Rattle.walrus_body_laws.specs.walrus_pairing.Looks.{Or}
 use Rattle.walrus_body_laws.specs.walrus_pairing.walrus_instr.BlockTypes.{picked}
 use Rattle.walrus_body_laws.specs.walrus_pairing.walrus_instr.declared.instr.Instr.{Instr}
@@ -73,21 +75,21 @@ heap_ok : (a h : HeapType) → (let x : Or HeapType = Ok a in x) ≡ Ok h → So
 heap_ok a h e = cc
 
 module _ (ids : List ℕ) where
-  abstract_seen : (ty : ReadAbstract) (h : HeapType) → read_heap (slice_get ids) (FromAbstract false ty) ≡ Ok h → option_map (renamed_heap (at ids)) (heap_of (FromAbstract false ty)) ≡ Some h
-  abstract_seen from.Func h e = heap_ok (Abstract into.Func) h e
-  abstract_seen from.Extern h e = heap_ok (Abstract into.Extern) h e
-  abstract_seen from.Any h e = heap_ok (Abstract into.Any) h e
-  abstract_seen from.None h e = heap_ok (Abstract into.None) h e
-  abstract_seen from.NoExtern h e = heap_ok (Abstract into.NoExtern) h e
-  abstract_seen from.NoFunc h e = heap_ok (Abstract into.NoFunc) h e
-  abstract_seen from.Eq h e = heap_ok (Abstract into.Eq) h e
-  abstract_seen from.Struct h e = heap_ok (Abstract into.Struct) h e
-  abstract_seen from.Array h e = heap_ok (Abstract into.Array) h e
-  abstract_seen from.I31 h e = heap_ok (Abstract into.I31) h e
-  abstract_seen from.Exn h e = heap_ok (Abstract into.Exn) h e
-  abstract_seen from.NoExn h e = heap_ok (Abstract into.NoExn) h e
-  abstract_seen from.Cont h e = absurd cc
-  abstract_seen from.NoCont h e = absurd cc
+  abstract_seen : (ty : ReadAbstract) → ((kind : AbstractHeapType) × (read_abstract ty ≡ Ok kind) × (abstract_of ty ≡ Some kind)) ⊎ (read_abstract ty ≡ Err errors.ContinuationType)
+  abstract_seen from.Func = inl (into.Func, refl, refl)
+  abstract_seen from.Extern = inl (into.Extern, refl, refl)
+  abstract_seen from.Any = inl (into.Any, refl, refl)
+  abstract_seen from.None = inl (into.None, refl, refl)
+  abstract_seen from.NoExtern = inl (into.NoExtern, refl, refl)
+  abstract_seen from.NoFunc = inl (into.NoFunc, refl, refl)
+  abstract_seen from.Eq = inl (into.Eq, refl, refl)
+  abstract_seen from.Struct = inl (into.Struct, refl, refl)
+  abstract_seen from.Array = inl (into.Array, refl, refl)
+  abstract_seen from.I31 = inl (into.I31, refl, refl)
+  abstract_seen from.Exn = inl (into.Exn, refl, refl)
+  abstract_seen from.NoExn = inl (into.NoExn, refl, refl)
+  abstract_seen from.Cont = inr refl
+  abstract_seen from.NoCont = inr refl
 
   concrete_seen : (n : ℕ) (h : HeapType) → read_heap (slice_get ids) (FromConcrete (Module n)) ≡ Ok h → Some (Concrete (at ids n)) ≡ Some h
   concrete_seen n h e = go (slice_get ids n) refl
@@ -116,8 +118,16 @@ module _ (ids : List ℕ) where
       go (Some id) is = ap (λ (k : ℕ). Some (Exact k)) (at_get ids n id is) ∙ heap_ok (Exact id) h (sym (found id is) ∙ e)
 
   heap_seen : (w : ReadHeap) (h : HeapType) → read_heap (slice_get ids) w ≡ Ok h → option_map (renamed_heap (at ids)) (heap_of w) ≡ Some h
-  heap_seen (FromAbstract true ty) h e = absurd cc
-  heap_seen (FromAbstract false ty) h e = abstract_seen ty h e
+  heap_seen (FromAbstract false ty) h e =
+      elim (abstract_seen ty) as (λ _. option_map (renamed_heap (at ids)) (heap_of (FromAbstract false ty)) ≡ Some h) [
+        | inl kind ↦ rw kind.2 (heap_ok (Abstract kind.0) h (rw kind.1 at e))
+        | inr none ↦ absurd (let e = rw none at e in cc)
+      ]
+  heap_seen (FromAbstract true ty) h e =
+      elim (abstract_seen ty) as (λ _. option_map (renamed_heap (at ids)) (heap_of (FromAbstract true ty)) ≡ Some h) [
+        | inl kind ↦ rw kind.2 (heap_ok (Shared kind.0) h (rw kind.1 at e))
+        | inr none ↦ absurd (let e = rw none at e in cc)
+      ]
   heap_seen (FromConcrete (Module n)) h e = concrete_seen n h e
   heap_seen (FromConcrete (RecGroup n)) h e = absurd cc
   heap_seen (FromConcrete (Id n)) h e = absurd cc

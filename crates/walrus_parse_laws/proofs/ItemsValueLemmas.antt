@@ -5,7 +5,7 @@ use Rattle.walrus_named_bodies.specs.walrus_file_bodies.walrus_items_into.walrus
 use Rattle.walrus_walks.specs.walrus_forms.Renaming.{RefBelow, ValueBelow, renamed_heap, renamed_ref, renamed_value}
 use Rattle.walrus_walks.specs.walrus_forms.Values.{heap_name}
 use Rattle.walrus_walks.specs.walrus_forms.declared.value.HeapType.{HeapType}
-use Rattle.walrus_walks.specs.walrus_forms.declared.value.HeapType.TheVariants.{Abstract, Concrete, Exact}
+use Rattle.walrus_walks.specs.walrus_forms.declared.value.HeapType.TheVariants.{Abstract, Shared, Concrete, Exact}
 use Rattle.walrus_walks.specs.walrus_forms.declared.value.RefType.{RefType}
 use Rattle.walrus_walks.specs.walrus_forms.declared.value.ValType.{ValType}
 use Rattle.walrus_walks.specs.walrus_forms.declared.value.ValType.TheVariants.{I32, I64, F32, F64, V128, Ref}
@@ -18,6 +18,7 @@ use Rattle.walrus_parse_laws.proofs.ListLemmas.{AllOf}
 module _ (types : ℕ) (r : ℕ → ℕ) (P : Item → Type 0) (serves : (n : ℕ) → n < types → P (item spaces.«Type» (r n))) where
   heap_served : (nullable : Bool) (heap : HeapType) → IfSome (heap_name heap) (λ n. n < types) → AllOf P (items_of (ref_names (record { nullable = nullable; heap_type = renamed_heap r heap })))
   heap_served nullable (Abstract ty) h = tt
+  heap_served nullable (Shared ty) h = tt
   heap_served nullable (Concrete n) h = (serves n h, tt)
   heap_served nullable (Exact n) h = (serves n h, tt)
 

@@ -87,9 +87,9 @@ one_written None kind s plain h = with_written false (kind ∷ []) s.table (plai
 
 added_written : (explicit : Bool) (kinds : List Kind) (s : Parsed) → AllByRecursion (λ (k : Kind). k.entry ≡ false) kinds → Written s.table → Written (added explicit kinds s).table
 added_written true kinds s plain h = with_written true kinds s.table plain h
-added_written false [] s plain h = with_written false [] s.table plain h
+added_written false [] s plain h = with_written true [] s.table plain h
 added_written false (kind ∷ []) s plain h = one_written (equal_type kind s.table) kind s plain.0 h
-added_written false (a ∷ b ∷ kinds) s plain h = with_written false (a ∷ b ∷ kinds) s.table plain h
+added_written false (a ∷ b ∷ kinds) s plain h = with_written true (a ∷ b ∷ kinds) s.table plain h
 
 all_written : (groups : List TypeGroup) (s : Parsed) → AreDeclared groups → Written s.table → Written (parsed groups s).table
 all_written [] s plain h = h

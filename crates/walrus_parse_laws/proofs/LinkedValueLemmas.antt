@@ -7,7 +7,7 @@ use Rattle.walrus_forms.specs.Forms.{Form, FunctionForm, StructForm, ArrayForm, 
 use Rattle.walrus_forms.specs.Kinds.{Kind, entry_kind, function_kind, kind_names}
 use Rattle.walrus_forms.specs.Values.{value_name}
 use Rattle.walrus_forms.specs.declared.value.HeapType.{HeapType}
-use Rattle.walrus_forms.specs.declared.value.HeapType.TheVariants.{Abstract, Concrete, Exact}
+use Rattle.walrus_forms.specs.declared.value.HeapType.TheVariants.{Abstract, Shared, Concrete, Exact}
 use Rattle.walrus_forms.specs.declared.value.ValType.{ValType}
 use Rattle.walrus_forms.specs.declared.value.ValType.TheVariants.{I32, I64, F32, F64, V128, Ref}
 use Rattle.walrus_function_types.specs.FunctionTypes.{form_params, form_results, params_at, results_at}
@@ -59,6 +59,7 @@ module _ (Good : Item → Type 0) where
     where
       of_heap : (GoodValues tys → GoodTypes (filter_map value_name tys)) → (heap : HeapType) → GoodValues (Ref (record { nullable = ty.nullable; heap_type = heap }) ∷ tys) → GoodTypes (filter_map value_name (Ref (record { nullable = ty.nullable; heap_type = heap }) ∷ tys))
       of_heap later (Abstract abstract) h = later h
+      of_heap later (Shared abstract) h = later h
       of_heap later (Concrete id) h = (h.0, later h.1)
       of_heap later (Exact id) h = (h.0, later h.1)
 
@@ -73,6 +74,7 @@ module _ (Good : Item → Type 0) where
     where
       of_heap : (GoodTypes (filter_map value_name tys) → GoodValues tys) → (heap : HeapType) → GoodTypes (filter_map value_name (Ref (record { nullable = ty.nullable; heap_type = heap }) ∷ tys)) → GoodValues (Ref (record { nullable = ty.nullable; heap_type = heap }) ∷ tys)
       of_heap later (Abstract abstract) h = later h
+      of_heap later (Shared abstract) h = later h
       of_heap later (Concrete id) h = (h.0, later h.1)
       of_heap later (Exact id) h = (h.0, later h.1)
 

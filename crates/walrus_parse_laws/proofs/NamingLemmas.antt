@@ -13,7 +13,7 @@ use Rattle.walrus_named_bodies.specs.walrus_file_bodies.walrus_body_trees.walrus
 use Rattle.walrus_named_bodies.specs.walrus_file_bodies.walrus_items_into.walrus_module_bodies.walrus_body_trees.walrus_meaning.walrus_local_function.walrus_function_parser.walrus_body_rules.Sights.{Sight, look, value_block}
 use Rattle.walrus_named_bodies.specs.walrus_file_bodies.walrus_body_trees.Laws.{IsNaming}
 use Rattle.walrus_forms.specs.declared.value.HeapType.{HeapType}
-use Rattle.walrus_forms.specs.declared.value.HeapType.TheVariants.{Abstract, Concrete, Exact}
+use Rattle.walrus_forms.specs.declared.value.HeapType.TheVariants.{Abstract, Shared, Concrete, Exact}
 use Rattle.walrus_forms.specs.declared.value.ValType.{ValType}
 use Rattle.walrus_forms.specs.declared.value.ValType.TheVariants.{I32, I64, F32, F64, V128, Ref}
 use Rattle.walrus_named_bodies.specs.walrus_file_bodies.walrus_body_trees.walrus_pairing.walrus_instr.declared.seq.InstrSeqType.{InstrSeqType}
@@ -28,6 +28,7 @@ use Rattle.walrus_parse_laws.proofs.ListLemmas.{some_is}
 
 heap_written : (h : HeapType) → written_heap (all Types) h ≡ Ok (own_heap h)
 heap_written (Abstract ty) = refl
+heap_written (Shared ty) = refl
 heap_written (Concrete id) = refl
 heap_written (Exact id) = refl
 

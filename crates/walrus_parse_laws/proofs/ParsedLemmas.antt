@@ -1,5 +1,5 @@
 -- Lemmas: what a group adds to a table, and which ids its types get.
-use Rattle.std.proofs.Common.{◌≡◌, ◌∙◌, ◌+◌, ◌<◌, ◌≤◌, ◌⊎◌, ◌==◌, ◌||◌, ℕ, zero, suc, Bool, true, false, List, [], ◌∷◌, ◌++◌, length, map, Option, Some, None, refl, sym, ap, subst, arith, inl, inr}
+use Rattle.std.proofs.Common.{◌≡◌, ◌∙◌, ◌+◌, ◌<◌, ◌≤◌, ◌⊎◌, ◌==◌, ◌&&◌, ◌||◌, ℕ, zero, suc, Bool, true, false, not, List, [], ◌∷◌, ◌++◌, length, map, Option, Some, None, refl, sym, ap, subst, arith, inl, inr}
 use Rattle.std.specs.Prelude.{if◌then◌else◌}
 use Rattle.std.specs.List.{AllByRecursion, range_with_len}
 use Rattle.std.proofs.lemmas.Bool.{cases_lt, eq-eqb, ne_eqb}
@@ -101,30 +101,34 @@ pub record AllGiven (s : Parsed) : Type 0 where
 abbrev pub IsMerged : List ℕ → Parsed → Parsed → Type 0
 IsMerged own s t = (id : ℕ) × (own ≡ id ∷ []) × (has_number s.ids id ≡ true) × (t.table.groups ≡ s.table.groups)
 
+-- it is explicit but where it is of one type without a mark
+abbrev pub is_explicit : Bool → ℕ → Bool
+is_explicit marked count = not (not marked && count == 1)
+
 abbrev pub IsFresh : Parsed → List ℕ → Type 0
 IsFresh s [] = Unit {0}
 IsFresh s (id ∷ ids) = has_number s.ids id ≡ false
 
 -- it stands there
 abbrev pub IsAdded : Bool → List ℕ → Parsed → Parsed → Type 0
-IsAdded marked own s t = IsFresh s own × (t.table.groups ≡ s.table.groups ++ group_slot marked own)
+IsAdded explicit own s t = IsFresh s own × (t.table.groups ≡ s.table.groups ++ group_slot explicit own)
 
-pub record Step (marked : Bool) (count : ℕ) (s t : Parsed) : Type 0 where
+pub record Step (explicit : Bool) (count : ℕ) (s t : Parsed) : Type 0 where
   pub own : List ℕ
   pub sized : length own ≡ count
   pub ids : t.ids ≡ s.ids ++ own
   pub given : AllGiven t
-  pub groups : IsMerged own s t ⊎ IsAdded marked own s t
+  pub groups : IsMerged own s t ⊎ IsAdded explicit own s t
 
 fresh : (s : Parsed) (count : ℕ) → AllGiven s → IsFresh s (range_with_len (next_id s.table) count)
 fresh s zero h = tt
 fresh s (suc count) h = not_there (next_id s.table) s.ids h.below
 
-plain_step : (marked : Bool) (kinds : List Kind) (s : Parsed) → AllGiven s
-    → Step marked (length kinds) s (record { ids = s.ids ++ range_with_len (next_id s.table) (length kinds); table = with_group marked kinds s.table })
-plain_step marked kinds s h =
+plain_step : (explicit : Bool) (kinds : List Kind) (s : Parsed) → AllGiven s
+    → Step explicit (length kinds) s (record { ids = s.ids ++ range_with_len (next_id s.table) (length kinds); table = with_group explicit kinds s.table })
+plain_step explicit kinds s h =
     let first = next_id s.table in
-    let t = with_group marked kinds s.table in
+    let t = with_group explicit kinds s.table in
     let own = range_with_len first (length kinds) in
     let next : next_id t ≡ first + length kinds = length-append s.table.types (new_items first kinds) ∙ ap (λ (n : ℕ). first + n) (items_length first kinds) in record {
       own = own;
@@ -154,16 +158,18 @@ merged_step (Some id) kind s e h =
       groups = inl (id, refl, h.all id lt, refl);
     }
 
-added_step : (marked : Bool) (kinds : List Kind) (s : Parsed) → AllGiven s → Step marked (length kinds) s (added marked kinds s)
+added_step : (marked : Bool) (kinds : List Kind) (s : Parsed) → AllGiven s → Step (is_explicit marked (length kinds)) (length kinds) s (added marked kinds s)
 added_step true kinds s h = plain_step true kinds s h
-added_step false [] s h = plain_step false [] s h
+added_step false [] s h = plain_step true [] s h
 added_step false (kind ∷ []) s h = merged_step (equal_type kind s.table) kind s refl h
-added_step false (a ∷ b ∷ kinds) s h = plain_step false (a ∷ b ∷ kinds) s h
+added_step false (a ∷ b ∷ kinds) s h =
+    let all = a ∷ b ∷ kinds in
+    subst (λ (one : Bool). Step (not one) (length all) s (added false all s)) (sym (ne_eqb (length all) 1 (λ e. omega (arith, e)))) (plain_step true all s h)
 
-pub step : (g : TypeGroup) (s : Parsed) → AllGiven s → Step g.marked (length g.kinds) s (parsed_group g s)
+pub step : (g : TypeGroup) (s : Parsed) → AllGiven s → Step (is_explicit g.marked (length g.kinds)) (length g.kinds) s (parsed_group g s)
 step g s h =
     let f = renamed_kind (at (known_ids g s)) in
-    subst (λ (n : ℕ). Step g.marked n s (parsed_group g s)) (length-map g.kinds f) (added_step g.marked (map f g.kinds) s h)
+    subst (λ (n : ℕ). Step (is_explicit g.marked n) n s (parsed_group g s)) (length-map g.kinds f) (added_step g.marked (map f g.kinds) s h)
 
 -- the ids of the types of several
 abbrev pub later_ids : (groups : List TypeGroup) (s : Parsed) → AllGiven s → List ℕ

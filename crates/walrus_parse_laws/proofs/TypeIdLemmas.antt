@@ -156,9 +156,9 @@ merged_ordered (Some id) kind s plain h = h
 
 added_ordered : (marked : Bool) (kinds : List Kind) (s : Parsed) → ArePlain kinds → IsOrdered s.table → IsOrdered (added marked kinds s).table
 added_ordered true kinds s plain h = group_ordered true kinds s.table plain h
-added_ordered false [] s plain h = group_ordered false [] s.table plain h
+added_ordered false [] s plain h = group_ordered true [] s.table plain h
 added_ordered false (kind ∷ []) s plain h = merged_ordered (equal_type kind s.table) kind s plain.0 h
-added_ordered false (a ∷ b ∷ kinds) s plain h = group_ordered false (a ∷ b ∷ kinds) s.table plain h
+added_ordered false (a ∷ b ∷ kinds) s plain h = group_ordered true (a ∷ b ∷ kinds) s.table plain h
 
 all_ordered : (groups : List TypeGroup) (s : Parsed) → AreDeclared groups → IsOrdered s.table → IsOrdered (parsed groups s).table
 all_ordered [] s plain h = h

@@ -6,6 +6,7 @@ use Rattle.walrus_named_bodies.specs.walrus_file_bodies.walrus_items_into.walrus
 use Rattle.walrus_named_bodies.specs.walrus_file_bodies.walrus_items_into.walrus_module_bodies.walrus_body_trees.walrus_meaning.walrus_local_function.walrus_body_locals.wasm_grammar.walrus_forms.Kinds.{Kind}
 use Rattle.walrus_named_bodies.specs.walrus_file_bodies.walrus_items_into.walrus_module_bodies.walrus_body_trees.walrus_meaning.walrus_local_function.walrus_body_locals.wasm_grammar.walrus_forms.Records.{TypeGroup}
 use Rattle.walrus_named_bodies.specs.walrus_file_bodies.walrus_items_into.walrus_module_bodies.walrus_body_trees.walrus_meaning.walrus_local_function.walrus_body_locals.wasm_grammar.walrus_forms.Renaming.{at, renamed_kind}
+use Rattle.walrus_named_bodies.specs.walrus_file_bodies.walrus_items_into.walrus_module_bodies.walrus_body_trees.walrus_meaning.walrus_module.walrus_types.Mergers.{is_single}
 use Rattle.walrus_named_bodies.specs.walrus_file_bodies.walrus_items_into.walrus_module_bodies.walrus_body_trees.walrus_meaning.walrus_module.walrus_types.Parsing.{AreBelow, parsed, unparsed}
 use Rattle.walrus_named_bodies.specs.walrus_file_bodies.walrus_items_into.walrus_functions_into.wasm_sections.Laws.{ReadsSections}
 use Rattle.walrus_named_bodies.specs.walrus_file_bodies.walrus_items_into.walrus_module_bodies.walrus_body_trees.walrus_meaning.Bodies.{has_number}
@@ -16,8 +17,9 @@ use Rattle.walrus_named_bodies.specs.walrus_file_bodies.walrus_items_into.walrus
 abbrev pub is_new : List ℕ → ℕ → Bool
 is_new ids n = not (has_number (take n ids) (at ids n))
 
+-- marked but where it is of one type without a mark
 abbrev pub renamed_group : (ℕ → ℕ) → TypeGroup → TypeGroup
-renamed_group r g = record { marked = g.marked; kinds = map (renamed_kind r) g.kinds }
+renamed_group r g = record { marked = not (is_single g); kinds = map (renamed_kind r) g.kinds }
 
 -- where types have these ids, and so many stand before: the groups that have types, but for a single one whose type has the id of an
 -- earlier one

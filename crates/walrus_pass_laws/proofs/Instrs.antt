@@ -6,7 +6,7 @@ use Rattle.std.proofs.lemmas.List.Elements.{filter_map-append}
 use Rattle.wasm_references.specs.wasm_operators.Items.{Labels, Tags}
 use Rattle.wasm_references.specs.wasm_operators.Names.{Name, operator_names, block_names, heap_names, clause_names, label_name}
 use Rattle.walrus_walks.specs.walrus_forms.declared.value.HeapType.{HeapType}
-use Rattle.walrus_walks.specs.walrus_forms.declared.value.HeapType.TheVariants.{Abstract, Concrete, Exact}
+use Rattle.walrus_walks.specs.walrus_forms.declared.value.HeapType.TheVariants.{Abstract, Shared, Concrete, Exact}
 use Rattle.walrus_walks.specs.walrus_forms.declared.value.RefType.{RefType}
 use Rattle.walrus_walks.specs.walrus_forms.declared.value.ValType.TheVariants.{I32, I64, F32, F64, V128, Ref}
 use Rattle.walrus_walks.specs.walrus_instr.declared.instr.Instr.{Instr}
@@ -33,6 +33,7 @@ use Rattle.walrus_pass_laws.proofs.Sets.{Same, same_refl, same_sym, same_trans, 
 
 heap_told : (nullable : Bool) (h : HeapType) → told_all (ref_names (record { nullable = nullable; heap_type = h })) ≡ heap_names (own_heap h)
 heap_told nullable (Abstract ty) = refl
+heap_told nullable (Shared ty) = refl
 heap_told nullable (Concrete id) = refl
 heap_told nullable (Exact id) = refl
 

@@ -8,7 +8,7 @@ use Rattle.wasm_references.specs.wasm_operators.Operators.{Seen}
 use Rattle.wasm_references.specs.wasm_operators.Names.{operator_names}
 use Rattle.wasm_references.specs.References as abstract
 use Rattle.walrus_walks.specs.walrus_forms.declared.value.HeapType.{HeapType}
-use Rattle.walrus_walks.specs.walrus_forms.declared.value.HeapType.TheVariants.{Abstract, Concrete, Exact}
+use Rattle.walrus_walks.specs.walrus_forms.declared.value.HeapType.TheVariants.{Abstract, Shared, Concrete, Exact}
 use Rattle.walrus_walks.specs.walrus_forms.declared.value.RefType.{RefType}
 use Rattle.walrus_walks.specs.walrus_forms.declared.value.ValType.{ValType}
 use Rattle.walrus_walks.specs.walrus_forms.declared.value.ValType.TheVariants.{I32, I64, F32, F64, V128, Ref}
@@ -46,6 +46,7 @@ own_append xs ys = map_append own_item xs ys
 
 heap_meant : (nullable : Bool) (h : HeapType) → own_items (items_of (ref_names (record { nullable = nullable; heap_type = h }))) ≡ abstract.ref_items (record { nullable = nullable; heap_type = h })
 heap_meant nullable (Abstract ty) = refl
+heap_meant nullable (Shared ty) = refl
 heap_meant nullable (Concrete id) = refl
 heap_meant nullable (Exact id) = refl
 
@@ -67,6 +68,7 @@ op_items op = abstract.names_items abstract.no_locals (operator_names op)
 
 null_meant : (nullable : Bool) (h : HeapType) → own_items (items_of (op_names (consts.RefNull (record { nullable = nullable; heap_type = h })))) ≡ op_items (const_seen (consts.RefNull (record { nullable = nullable; heap_type = h })))
 null_meant nullable (Abstract ty) = refl
+null_meant nullable (Shared ty) = refl
 null_meant nullable (Concrete id) = refl
 null_meant nullable (Exact id) = refl
 

@@ -2,7 +2,7 @@
 use Rattle.std.specs.Prelude.{◌≡◌, Bool, true, Option, Some, None, Ok, refl}
 use Rattle.wasm_references.specs.wasm_operators.Operators.{Seen}
 use Rattle.walrus_walks.specs.walrus_forms.declared.value.HeapType.{HeapType}
-use Rattle.walrus_walks.specs.walrus_forms.declared.value.HeapType.TheVariants.{Abstract, Concrete, Exact}
+use Rattle.walrus_walks.specs.walrus_forms.declared.value.HeapType.TheVariants.{Abstract, Shared, Concrete, Exact}
 use Rattle.walrus_walks.specs.walrus_forms.declared.value.ValType.{ValType}
 use Rattle.walrus_walks.specs.walrus_forms.declared.value.ValType.TheVariants.{I32, I64, F32, F64, V128, Ref}
 use Rattle.walrus_walks.specs.walrus_instr.declared.instr.Instr.{Instr}
@@ -21,24 +21,28 @@ Has o = o ≡ Ok (Some (plain_or_nop o))
 null_has : (nullable : Bool) (heap : HeapType) → Has (operator_at itself (instrs.RefNull (record { nullable = nullable; heap_type = heap })))
 unfolding operator_at
 null_has nullable (Abstract ty) = refl
+null_has nullable (Shared ty) = refl
 null_has nullable (Concrete id) = refl
 null_has nullable (Exact id) = refl
 
 test_has : (nullable : Bool) (heap : HeapType) → Has (operator_at itself (instrs.RefTest (record { nullable = nullable; heap_type = heap })))
 unfolding operator_at
 test_has nullable (Abstract ty) = refl
+test_has nullable (Shared ty) = refl
 test_has nullable (Concrete id) = refl
 test_has nullable (Exact id) = refl
 
 cast_has : (nullable : Bool) (heap : HeapType) → Has (operator_at itself (instrs.RefCast (record { nullable = nullable; heap_type = heap })))
 unfolding operator_at
 cast_has nullable (Abstract ty) = refl
+cast_has nullable (Shared ty) = refl
 cast_has nullable (Concrete id) = refl
 cast_has nullable (Exact id) = refl
 
 of_ref : (nullable : Bool) (heap : HeapType) → Has (operator_at itself (instrs.Select (Some (Ref (record { nullable = nullable; heap_type = heap })))))
 unfolding operator_at
 of_ref nullable (Abstract ty) = refl
+of_ref nullable (Shared ty) = refl
 of_ref nullable (Concrete id) = refl
 of_ref nullable (Exact id) = refl
 

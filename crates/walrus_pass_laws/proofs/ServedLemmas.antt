@@ -152,6 +152,7 @@ no_local_both a c p q id h = elim (split a c (item spaces.Local id) h) as (λ _.
 
 no_local_heap : (nullable : Bool) (h : HeapType) → NoLocal (ref_names (record { nullable = nullable; heap_type = h }))
 no_local_heap n (heaps.Abstract a) id c = none_in (item spaces.Local id) c
+no_local_heap n (heaps.Shared a) id c = none_in (item spaces.Local id) c
 no_local_heap n (heaps.Concrete t) id c = one_other spaces.Type t (omega arith) id c
 no_local_heap n (heaps.Exact t) id c = one_other spaces.Type t (omega arith) id c
 

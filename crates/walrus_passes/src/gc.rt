@@ -50,7 +50,7 @@ fn drop_unkept<B>(input: &mut Module<B>, kept: &KeptItems, types: &mut [bool])
 /// First `SectionRefused` where a custom section refuses to say what it pushes: each is asked once, by rising id, before anything
 /// else. Then, in this order, for what is reached from the roots: `NotLinked` where an item and an import don't name each other, or
 /// a function has no body or not its arguments; `NoTree` where a body is no tree; `DeadReference` where an item doesn't
-/// live, or a type names one past its own group; `Unsupported`, at the place 0, where a global is shared or a heap type is exact.
+/// live, or a type names one past its own group; `Unsupported`, without a place, where a global is shared or a heap type is exact.
 /// Want of memory. The module stays as it was.
 pub fn run<B: CustomSection>(alloc: Global, input: &mut Module<B>) -> Result<(), ModuleError>
     ensures kept { OnOk result (WithPushed (pushed B.gc_roots (entries input.old.customs)) (λ items. IsKeptPart (parts input.old) items (parts input.new))) }

@@ -90,7 +90,7 @@ impl Used {
     /// First `SectionRefused` where a custom section refuses to say what it pushes: each is asked once, by rising id, before
     /// anything else. Then, in this order, for what is reached from the roots: `NotLinked` where an item and an import don't name each
     /// other, or a function has no body or not its arguments; `NoTree` where a body is no tree; `DeadReference` where
-    /// an item doesn't live, or a type names one past its own group; `Unsupported`, at the place 0, where a global is shared or
+    /// an item doesn't live, or a type names one past its own group; `Unsupported`, without a place, where a global is shared or
     /// a heap type is exact. Want of memory.
     pub fn new<B: CustomSection>(alloc: Global, input: &Module<B>) -> Result<Self, ModuleError>
         ensures kept { IfOk result (λ used. WithPushed (pushed B.gc_roots (entries input.now.customs)) (λ items. AreKept (parts input.now) items used)) }

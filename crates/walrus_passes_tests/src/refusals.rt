@@ -23,7 +23,7 @@ const OF_MODULES: [ModuleError; 25] = [
     ModuleError::Operator { offset: 9 },
     ModuleError::Unsupported {
         form: Form::SharedGlobal,
-        offset: 9,
+        offset: Some(9),
     },
     ModuleError::DuplicateExport { offset: 9 },
     ModuleError::Bounds { offset: 9 },

@@ -150,6 +150,7 @@ fn set_some(config: &mut ModuleConfig) {
         .generate_synthetic_names_for_anonymous_items(true)
         .only_stable_features(true)
         .legacy_exceptions(false)
+        .shared_types(true)
         .keep_segments(true);
 }
 
@@ -157,5 +158,5 @@ fn set_some(config: &mut ModuleConfig) {
 fn a_chain_of_setters_sets_its_flags(rt: HostRuntime) {
     let mut config = ModuleConfig::new();
     set_some(&mut config);
-    assert!(rt; !config.generate_name_section && config.generate_dwarf && config.keep_segments);
+    assert!(rt; !config.generate_name_section && config.shared_types && config.keep_segments);
 }

@@ -1,12 +1,12 @@
 -- Lemmas: an operator of constant expressions that has a spelling, and whose names are found, is one of a constant expression in a module.
-use Rattle.std.specs.Prelude.{ℕ, ◌≡◌, nat_lt, true, false, List, [], ◌∷◌, length, Some, None, Ok, refl}
+use Rattle.std.specs.Prelude.{ℕ, ◌≡◌, ◌⊎◌, nat_lt, true, false, List, [], ◌∷◌, length, Some, None, Ok, refl}
 use Rattle.std.specs.Option.{option_and_then}
-use Rattle.std.proofs.Common.{ap, sym, ◌∙◌, subst}
+use Rattle.std.proofs.Common.{ap, sym, ◌∙◌, subst, inl, inr}
 use Rattle.std.proofs.lemmas.Bool.{ltb-true}
 use Rattle.walrus_tables_into.specs.walrus_sections_into.walrus_collections.walrus_local_function.walrus_body_locals.walrus_body_nesting.wasm_formats.wasm_features.declared.WasmFeatures.{WasmFeatures}
 use Rattle.walrus_tables_into.specs.walrus_sections_into.walrus_collections.walrus_local_function.walrus_body_locals.walrus_body_nesting.wasm_formats.Stops.{Trouble}
 use Rattle.walrus_tables_into.specs.walrus_sections_into.walrus_collections.walrus_local_function.walrus_body_locals.wasm_grammar.Exprs.{Known, is_constant, item_test, items_test, heap_test}
-use Rattle.walrus_tables_into.specs.walrus_sections_into.walrus_collections.walrus_local_function.walrus_body_locals.wasm_grammar.TypeWords.{heap_of}
+use Rattle.walrus_tables_into.specs.walrus_sections_into.walrus_collections.walrus_local_function.walrus_body_locals.wasm_grammar.TypeWords.{abstract_of, heap_of}
 use Rattle.walrus_tables_into.specs.walrus_sections_into.walrus_collections.walrus_local_function.walrus_body_locals.wasm_grammar.Values.{must}
 use Rattle.walrus_tables_into.specs.walrus_sections_into.walrus_collections.walrus_local_function.walrus_body_locals.wasm_grammar.wasm_operators.declared.entry.Kind.{Kind}
 use Rattle.walrus_tables_into.specs.walrus_sections_into.walrus_collections.walrus_local_function.walrus_body_locals.wasm_grammar.wasm_operators.declared.entry.Kind.TheVariants as kinds
@@ -22,9 +22,10 @@ use Rattle.walrus_tables_into.specs.walrus_sections_into.walrus_collections.walr
 use Rattle.walrus_tables_into.specs.walrus_sections_into.walrus_collections.walrus_local_function.walrus_body_locals.wasm_grammar.wasm_operators.wasm_ref_types.declared.index.UnpackedIndex.TheVariants.{Module, RecGroup, Id}
 use Rattle.wasm_spelled_modules.specs.wasm_module_rules.Keeps.{must_holds, first_none}
 use Rattle.wasm_spelled_modules.specs.wasm_operators.Ranges.{Of, ItemsFit, OperatorFits}
+use Rattle.walrus_tables_into.specs.walrus_sections_into.walrus_forms.declared.value.AbstractHeapType.{AbstractHeapType as OwnAbstract}
 use Rattle.walrus_tables_into.specs.walrus_sections_into.walrus_forms.declared.value.AbstractHeapType.TheVariants as heaps
 use Rattle.walrus_tables_into.specs.walrus_sections_into.walrus_forms.declared.value.HeapType.{HeapType}
-use Rattle.walrus_tables_into.specs.walrus_sections_into.walrus_forms.declared.value.HeapType.TheVariants.{Abstract, Concrete, Exact}
+use Rattle.walrus_tables_into.specs.walrus_sections_into.walrus_forms.declared.value.HeapType.TheVariants.{Abstract, Shared, Concrete, Exact}
 use Rattle.walrus_tables_into.specs.walrus_sections_into.walrus_instr.declared.const_expr.ConstOp.{ConstOp}
 use Rattle.walrus_tables_into.specs.walrus_sections_into.walrus_instr.declared.const_expr.ConstOp.TheVariants as consts
 use Rattle.walrus_tables_into.specs.walrus_sections_into.walrus_instr.declared.instr.Value.TheVariants as values
@@ -32,7 +33,7 @@ use Rattle.walrus_tables_into.specs.walrus_sections_into.walrus_instr.Constants.
 use Rattle.walrus_tables_into.specs.walrus_sections_into.walrus_pairing.walrus_codes.Unary.{unary_bytes}
 use Rattle.walrus_tables_into.specs.walrus_sections_into.walrus_pairing.walrus_codes.Binary.{binary_bytes}
 use Rattle.walrus_tables_into.specs.walrus_sections_into.walrus_pairing.Looks.{Look}
-use Rattle.walrus_tables_into.specs.walrus_sections_into.walrus_pairing.Types.{read_heap}
+use Rattle.walrus_tables_into.specs.walrus_sections_into.walrus_pairing.Types.{read_abstract, read_heap}
 use Rattle.walrus_tables_into.specs.walrus_sections_into.walrus_pairing.Read.{name_at, counted_at, of_items}
 use Rattle.wasm_spelled_modules.specs.Constants.{OfConstants}
 use Rattle.wasm_spelled_modules.proofs.Codes.{constants_are_listed}
@@ -52,25 +53,33 @@ module _ (look : Look) (k : Known) (finds : Finds look k) where
   below_found : (space : Space) (count n : ℕ) (t : Trouble) → AllFound look space count → must (nat_lt n count) t ≡ None → (id : ℕ) × (look space n ≡ Some id)
   below_found space count n t all e = all n (ltb-true n count (must_holds (nat_lt n count) t e))
 
-  abstract_found : (ty : AbstractHeapType) → heap_test k (heap_of (WAbstract false ty)) ≡ None → (h : HeapType) × (read_heap (look Types) (WAbstract false ty) ≡ Ok h)
-  abstract_found abstracts.Func e = (Abstract heaps.Func, refl)
-  abstract_found abstracts.Extern e = (Abstract heaps.Extern, refl)
-  abstract_found abstracts.Any e = (Abstract heaps.Any, refl)
-  abstract_found abstracts.None e = (Abstract heaps.None, refl)
-  abstract_found abstracts.NoExtern e = (Abstract heaps.NoExtern, refl)
-  abstract_found abstracts.NoFunc e = (Abstract heaps.NoFunc, refl)
-  abstract_found abstracts.Eq e = (Abstract heaps.Eq, refl)
-  abstract_found abstracts.Struct e = (Abstract heaps.Struct, refl)
-  abstract_found abstracts.Array e = (Abstract heaps.Array, refl)
-  abstract_found abstracts.I31 e = (Abstract heaps.I31, refl)
-  abstract_found abstracts.Exn e = (Abstract heaps.Exn, refl)
-  abstract_found abstracts.NoExn e = (Abstract heaps.NoExn, refl)
-  abstract_found abstracts.Cont e = absurd cc
-  abstract_found abstracts.NoCont e = absurd cc
+  abstract_found : (ty : AbstractHeapType) → ((kind : OwnAbstract) × (read_abstract ty ≡ Ok kind)) ⊎ (abstract_of ty ≡ None)
+  abstract_found abstracts.Func = inl (heaps.Func, refl)
+  abstract_found abstracts.Extern = inl (heaps.Extern, refl)
+  abstract_found abstracts.Any = inl (heaps.Any, refl)
+  abstract_found abstracts.None = inl (heaps.None, refl)
+  abstract_found abstracts.NoExtern = inl (heaps.NoExtern, refl)
+  abstract_found abstracts.NoFunc = inl (heaps.NoFunc, refl)
+  abstract_found abstracts.Eq = inl (heaps.Eq, refl)
+  abstract_found abstracts.Struct = inl (heaps.Struct, refl)
+  abstract_found abstracts.Array = inl (heaps.Array, refl)
+  abstract_found abstracts.I31 = inl (heaps.I31, refl)
+  abstract_found abstracts.Exn = inl (heaps.Exn, refl)
+  abstract_found abstracts.NoExn = inl (heaps.NoExn, refl)
+  abstract_found abstracts.Cont = inr refl
+  abstract_found abstracts.NoCont = inr refl
 
   heap_found : (ty : WrittenHeap) → heap_test k (heap_of ty) ≡ None → (h : HeapType) × (read_heap (look Types) ty ≡ Ok h)
-  heap_found (WAbstract false ty) e = abstract_found ty e
-  heap_found (WAbstract true ty) e = absurd cc
+  heap_found (WAbstract false ty) e =
+      elim (abstract_found ty) as (λ _. (h : HeapType) × (read_heap (look Types) (WAbstract false ty) ≡ Ok h)) [
+        | inl kind ↦ (Abstract kind.0, rw kind.1 refl)
+        | inr none ↦ absurd (let e = rw none at e in cc)
+      ]
+  heap_found (WAbstract true ty) e =
+      elim (abstract_found ty) as (λ _. (h : HeapType) × (read_heap (look Types) (WAbstract true ty) ≡ Ok h)) [
+        | inl kind ↦ (Shared kind.0, rw kind.1 refl)
+        | inr none ↦ absurd (let e = rw none at e in cc)
+      ]
   heap_found (WConcrete (Module n)) e = let f = below_found Types k.types n _ finds.types e in (Concrete f.0, rw f.1 refl)
   heap_found (WConcrete (RecGroup n)) e = absurd cc
   heap_found (WConcrete (Id id)) e = absurd cc

@@ -19,7 +19,7 @@ use Rattle.wasm_spelled_modules.specs.Spelled.{IsSpelled, InitIsSpelled, OriginI
 use Rattle.walrus_tables_into.specs.walrus_sections_into.walrus_forms.Records.{ref_of, value_of}
 use Rattle.walrus_tables_into.specs.walrus_sections_into.walrus_forms.Renaming.{HeapBelow, RefBelow, ValueBelow}
 use Rattle.walrus_tables_into.specs.walrus_sections_into.walrus_forms.declared.value.HeapType.{HeapType}
-use Rattle.walrus_tables_into.specs.walrus_sections_into.walrus_forms.declared.value.HeapType.TheVariants.{Abstract, Concrete, Exact}
+use Rattle.walrus_tables_into.specs.walrus_sections_into.walrus_forms.declared.value.HeapType.TheVariants.{Abstract, Shared, Concrete, Exact}
 use Rattle.walrus_tables_into.specs.walrus_sections_into.walrus_forms.declared.value.RefType.{RefType}
 use Rattle.walrus_tables_into.specs.walrus_sections_into.walrus_forms.declared.value.ValType.{ValType}
 use Rattle.walrus_tables_into.specs.walrus_sections_into.walrus_forms.declared.value.ValType.TheVariants.{I32, I64, F32, F64, V128, Ref}
@@ -115,6 +115,7 @@ module _ (look : Look) (m : Module) (found : FindsAll look m) where
 
   heap_there : (ty : HeapType) → HeapBelow (length (types_of m)) ty → (heap : HeapType) × (heap_in look ty ≡ Ok heap)
   heap_there (Abstract kind) h = (Abstract kind, refl)
+  heap_there (Shared kind) h = (Shared kind, refl)
   heap_there (Concrete n) h = let f = found.types n h in (Concrete f.0, rw f.1 refl)
   heap_there (Exact n) h = let f = found.types n h in (Exact f.0, rw f.1 refl)
 

@@ -1,5 +1,5 @@
 -- What is asked of all that is reached in a module, and why one is refused.
-use Rattle.std.specs.Prelude.{◌≡◌, List}
+use Rattle.std.specs.Prelude.{◌≡◌, List, None}
 use Rattle.wasm_formats.specs.declared.fault.Form.{Form}
 use Rattle.wasm_formats.specs.declared.fault.Form.TheVariants as forms
 use Rattle.walrus_errors.specs.declared.error.ModuleError.{ModuleError}
@@ -37,12 +37,12 @@ HasForm m pushed forms.ExactType = AllReached m pushed (HasNoExact m) → ⊥
 HasForm m pushed _ = ⊥
 
 -- why a module is refused: the first of these that isn't so of all that is reached; or for want of memory, of which nothing is said.
--- What isn't supported has no place in a file, and is answered with the place 0.
+-- What isn't supported stands in no bytes, and has no place.
 abbrev pub IsRefused : Module → List Item → ModuleError → Type 0
 IsRefused m pushed refusals.NotLinked = AllReached m pushed (Linked m) → ⊥
 IsRefused m pushed refusals.NoTree = AllReached m pushed (Linked m) × (AllReached m pushed (FormsTree m) → ⊥)
 IsRefused m pushed (refusals.DeadReference space) = AllReached m pushed (Linked m) × AllReached m pushed (FormsTree m) × (AllReached m pushed (λ x. x.space ≡ space → Stands m x) → ⊥)
 IsRefused m pushed (refusals.Unsupported form place) =
-    AllReached m pushed (Linked m) × AllReached m pushed (FormsTree m) × AllReached m pushed (Stands m) × HasForm m pushed form × (place ≡ 0)
+    AllReached m pushed (Linked m) × AllReached m pushed (FormsTree m) × AllReached m pushed (Stands m) × HasForm m pushed form × (place ≡ None)
 IsRefused m pushed refusals.Memory = Unit {0}
 IsRefused m pushed _ = ⊥

@@ -117,7 +117,7 @@ fn are_well<B>(input: &Module<B>, reached: &Reached) -> bool
 ///
 /// In this order, for what is reached: `NotLinked` where an item and an import don't name each other, or a function
 /// has no body or not its arguments; `NoTree` where a body is no tree; `DeadReference` where an item doesn't live, or
-/// a type names one past its own group; `Unsupported` where a global is shared or a heap type is exact, at the place 0.
+/// a type names one past its own group; `Unsupported`, without a place, where a global is shared or a heap type is exact.
 /// Want of memory.
 pub fn reach_sound<B>(
     alloc: Global,
@@ -164,7 +164,7 @@ pub fn reach_sound<B>(
         return Err(ModuleError::DeadReference { space });
     }
     if let Some(form) = form_of(alloc, input, &marks)? {
-        return Err(ModuleError::Unsupported { form, offset: 0 });
+        return Err(ModuleError::Unsupported { form, offset: None });
     }
     Ok(marks)
 }

@@ -1,5 +1,5 @@
 -- Faults of the readers of sections, in words of the formats, and as refusals of a module.
-use Rattle.std.specs.Prelude.{ℕ, ◌≡◌}
+use Rattle.std.specs.Prelude.{ℕ, ◌≡◌, Some}
 use Rattle.wasm_reader.specs.declared.error.Error.{Error}
 use Rattle.wasm_reader.specs.declared.error.ErrorKind.TheVariants as kinds
 use Rattle.wasm_formats.specs.Stops.{Trouble, Read, Header, SectionOrder, SectionSize, Count, Index, TypeForm, ConstExpr, OffsetType, Unsupported, DuplicateExport, Bounds, Limit}
@@ -51,7 +51,7 @@ error_at (faults.Index space) offset = errors.Index space offset
 error_at faults.TypeForm offset = errors.TypeForm offset
 error_at faults.ConstExpr offset = errors.ConstExpr offset
 error_at faults.OffsetType offset = errors.OffsetType offset
-error_at (faults.Unsupported form) offset = errors.Unsupported form offset
+error_at (faults.Unsupported form) offset = errors.Unsupported form (Some offset)
 error_at faults.DuplicateExport offset = errors.DuplicateExport offset
 error_at faults.Bounds offset = errors.Bounds offset
 error_at (faults.Limit of) offset = errors.Limit of offset

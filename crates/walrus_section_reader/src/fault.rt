@@ -121,7 +121,10 @@ impl From<Fault> for ModuleError {
             FaultKind::TypeForm => ModuleError::TypeForm { offset },
             FaultKind::ConstExpr => ModuleError::ConstExpr { offset },
             FaultKind::OffsetType => ModuleError::OffsetType { offset },
-            FaultKind::Unsupported(form) => ModuleError::Unsupported { form, offset },
+            FaultKind::Unsupported(form) => ModuleError::Unsupported {
+                form,
+                offset: Some(offset),
+            },
             FaultKind::DuplicateExport => ModuleError::DuplicateExport { offset },
             FaultKind::Bounds => ModuleError::Bounds { offset },
             FaultKind::Limit(of) => ModuleError::Limit { of, offset },

@@ -37,12 +37,15 @@ fn abstract_type(ty: ReadAbstract) -> Option<AbstractHeapType>
     }
 }
 
-/// The heap type that was read, where modules of this project have it: shared ones have no place there.
+/// The heap type that was read, where modules of this project have it: continuations have no place there.
 pub fn heap_record(ty: HeapType) -> Option<HeapRecord>
     ensures { option_map heap_told result ≡ heap_of ty }
 {
     match ty {
-        HeapType::Abstract { shared: true, .. } => None,
+        HeapType::Abstract { shared: true, ty } => match abstract_type(ty) {
+            Some(ty) => Some(HeapRecord::Shared(ty)),
+            None => None,
+        },
         HeapType::Abstract { shared: false, ty } => match abstract_type(ty) {
             Some(ty) => Some(HeapRecord::Abstract(ty)),
             None => None,
@@ -115,7 +118,7 @@ pub fn is_named_below(types: usize, name: Option<u32>) -> bool
     }
 }
 
-/// A reference type whose names are of so many types. Shared ones are `Unsupported`, others `Index`, at the first byte.
+/// A reference type whose names are of so many types; `Index` at the first byte where it names another.
 pub fn read_ref_type(
     alloc: Global,
     types: usize,
@@ -135,7 +138,7 @@ pub fn read_ref_type(
     Ok(record)
 }
 
-/// A value type whose names are of so many types. Shared ones are `Unsupported`, others `Index`, at the first byte.
+/// A value type whose names are of so many types; `Index` at the first byte where it names another.
 pub fn read_value_type(
     alloc: Global,
     types: usize,

@@ -1,2 +1,1 @@
 pub mod PushLemmas
-pub mod SlotLemmas

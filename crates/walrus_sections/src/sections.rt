@@ -13,7 +13,6 @@ use crate::fault::SectionFault;
 use crate::section::Section;
 use std::alloc::{AllocError, Global};
 use std::marker::Model;
-use std::mem;
 use walrus_arena::{Ids, TombstoneArena, UntypedCustomSectionId, UntypedCustomSectionSpace};
 use walrus_customs::RawCustomSection;
 use walrus_roots::Roots;
@@ -155,16 +154,11 @@ impl<B: Drop> Sections<B> {
         ensures deleted { self.new.slots ≡ slice_set self.old.slots id None }
         ensures room { self.old.room ≤ self.new.room }
     {
-        let empty = Section::Raw(RawCustomSection {
-            name: String::new(self.alloc),
-            bytes: Vec::new(self.alloc),
-        });
-        let section = match self.arena.get_mut(id) {
-            Some(section) => mem::replace(section, empty),
-            None => return None,
-        };
-        self.arena.delete(id);
-        Some(section)
+        if self.arena.contains(id) {
+            Some(self.arena.take(id))
+        } else {
+            None
+        }
     }
 
     /// Hands out the raw section of this name that has the lowest id, or `None` where no raw one has the name. Its id stays dead.

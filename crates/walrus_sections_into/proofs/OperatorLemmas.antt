@@ -15,7 +15,7 @@ use Rattle.walrus_sections_into.specs.Consts.{instr_const, plain_of, plain_is}
 use Rattle.walrus_sections_into.specs.Becomes.{renames_by, OpBecomes}
 use Rattle.walrus_forms.specs.declared.value.RefType.{RefType}
 use Rattle.walrus_forms.specs.declared.value.HeapType.{HeapType}
-use Rattle.walrus_forms.specs.declared.value.HeapType.TheVariants.{Abstract, Concrete, Exact}
+use Rattle.walrus_forms.specs.declared.value.HeapType.TheVariants.{Abstract, Shared, Concrete, Exact}
 use Rattle.walrus_instr.specs.declared.instr.Instr.TheVariants as instrs
 use Rattle.walrus_instr.specs.declared.instr.Value.{Value}
 use Rattle.walrus_instr.specs.declared.instr.Value.TheVariants.{I32, I64, F32, F64, V128}
@@ -38,6 +38,7 @@ null_is ty = go ty.heap_type refl
   where
     go : (h : HeapType) → ty.heap_type ≡ h → operator_at itself (instrs.RefNull ty) ≡ Ok (Some (const_seen (consts.RefNull ty)))
     go (Abstract kind) e = rw e refl
+    go (Shared kind) e = rw e refl
     go (Concrete id) e = rw e refl
     go (Exact id) e = rw e refl
 

@@ -3,7 +3,7 @@ use Rattle.std.specs.Prelude.{ℕ, ◌≡◌, Bool, Option, Some, None, Result, 
 use Rattle.std.specs.Option.{ok_or, unwrap_or}
 use Rattle.std.proofs.Common.{ap, sym, ◌∙◌}
 use Rattle.walrus_sections_into.specs.walrus_forms.declared.value.HeapType.{HeapType}
-use Rattle.walrus_sections_into.specs.walrus_forms.declared.value.HeapType.TheVariants.{Abstract, Concrete, Exact}
+use Rattle.walrus_sections_into.specs.walrus_forms.declared.value.HeapType.TheVariants.{Abstract, Shared, Concrete, Exact}
 use Rattle.walrus_sections_into.specs.walrus_forms.declared.value.RefType.{RefType}
 use Rattle.walrus_sections_into.specs.walrus_forms.declared.value.ValType.{ValType}
 use Rattle.walrus_sections_into.specs.walrus_forms.declared.value.ValType.TheVariants.{I32, I64, F32, F64, V128, Ref}
@@ -30,6 +30,7 @@ type_in look n = ok_or (look Types n) Unknown
 -- the same type, the type that it names by its id; it is refused where it names none
 abbrev pub heap_in : Look → HeapType → Or HeapType
 heap_in look (Abstract kind) = Ok (Abstract kind)
+heap_in look (Shared kind) = Ok (Shared kind)
 heap_in look (Concrete n) = type_in look n >>= λ id. Ok (Concrete id)
 heap_in look (Exact n) = type_in look n >>= λ id. Ok (Exact id)
 
@@ -58,6 +59,7 @@ heap_by look n wrap None heap is e = absurd cc
 
 pub heap_renamed : (look : Look) (ty heap : HeapType) → heap_in look ty ≡ Ok heap → heap ≡ renamed_heap (renames_by look Types) ty
 heap_renamed look (Abstract kind) heap e = sym (good_is (Abstract kind) heap e)
+heap_renamed look (Shared kind) heap e = sym (good_is (Shared kind) heap e)
 heap_renamed look (Concrete n) heap e = heap_by look n Concrete (look Types n) heap refl e
 heap_renamed look (Exact n) heap e = heap_by look n Exact (look Types n) heap refl e
 

@@ -16,6 +16,7 @@ fn read_heap(ty: HeapRecord, maps: &IndicesToIds) -> Result<HeapType, IntoError>
 {
     match ty {
         HeapRecord::Abstract(kind) => Ok(HeapType::Abstract(kind)),
+        HeapRecord::Shared(kind) => Ok(HeapType::Shared(kind)),
         HeapRecord::Concrete(number) => {
             let id = type_id(number, maps)?;
             Ok(HeapType::Concrete(id))

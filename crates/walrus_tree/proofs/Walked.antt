@@ -4,7 +4,7 @@ use Rattle.std.specs.Prelude.{slice_get, All}
 use Rattle.std.proofs.lemmas.List.{map-append, append-nil}
 use Rattle.std.proofs.lemmas.List.Elements.{All-head, All-tail, All-cons, All-nil}
 use Rattle.walrus_builder.specs.walrus_walks.walrus_instr.walrus_forms.declared.value.HeapType.{HeapType}
-use Rattle.walrus_builder.specs.walrus_walks.walrus_instr.walrus_forms.declared.value.HeapType.TheVariants.{Abstract, Concrete, Exact}
+use Rattle.walrus_builder.specs.walrus_walks.walrus_instr.walrus_forms.declared.value.HeapType.TheVariants.{Abstract, Shared, Concrete, Exact}
 use Rattle.walrus_builder.specs.walrus_walks.walrus_instr.walrus_forms.declared.value.RefType.{RefType}
 use Rattle.walrus_builder.specs.walrus_walks.walrus_instr.walrus_forms.declared.value.ValType.{ValType}
 use Rattle.walrus_builder.specs.walrus_walks.walrus_instr.walrus_forms.declared.value.ValType.TheVariants.{Ref}
@@ -38,6 +38,7 @@ none_begun f none (x ∷ xs) = begun_append (f x) (events_of f xs) ∙ ap (λ (s
 
 heap_silent : (nullable : Bool) (h : HeapType) → begun (ref_names (record { nullable = nullable; heap_type = h })) ≡ []
 heap_silent nullable (Abstract _) = refl
+heap_silent nullable (Shared _) = refl
 heap_silent nullable (Concrete _) = refl
 heap_silent nullable (Exact _) = refl
 

@@ -7,7 +7,7 @@ use Rattle.std.proofs.lemmas.Bool.{cases_Bool, false≢true, eqb-true}
 use Rattle.walrus_items.specs.walrus_forms.declared.value.AbstractHeapType.{AbstractHeapType}
 use Rattle.walrus_items.specs.walrus_forms.declared.value.AbstractHeapType.TheVariants.{Func, Extern, Any, None as NoneType, NoExtern, NoFunc, Eq, Struct, Array, I31, Exn, NoExn}
 use Rattle.walrus_items.specs.walrus_forms.declared.value.HeapType.{HeapType}
-use Rattle.walrus_items.specs.walrus_forms.declared.value.HeapType.TheVariants.{Abstract, Concrete, Exact}
+use Rattle.walrus_items.specs.walrus_forms.declared.value.HeapType.TheVariants.{Abstract, Shared, Concrete, Exact}
 use Rattle.walrus_items.specs.walrus_forms.declared.value.RefType.{RefType}
 use Rattle.walrus_items.specs.walrus_forms.declared.value.ValType.{ValType}
 use Rattle.walrus_items.specs.walrus_forms.declared.value.ValType.TheVariants.{I32, I64, F32, F64, V128, Ref}
@@ -104,12 +104,19 @@ abstracts a b e = sym (abstract-back a) ∙ ap abstract_at (numbers (abstract_pl
 
 heaps : Ties heap_cmp
 heaps (Abstract a) (Abstract b) e = ap Abstract (abstracts a b e)
+heaps (Abstract a) (Shared b) e = absurd (less-apart e)
 heaps (Abstract a) (Concrete y) e = absurd (less-apart e)
 heaps (Abstract a) (Exact y) e = absurd (less-apart e)
+heaps (Shared a) (Abstract b) e = absurd (greater-apart e)
+heaps (Shared a) (Shared b) e = ap Shared (abstracts a b e)
+heaps (Shared a) (Concrete y) e = absurd (less-apart e)
+heaps (Shared a) (Exact y) e = absurd (less-apart e)
 heaps (Concrete x) (Abstract b) e = absurd (greater-apart e)
+heaps (Concrete x) (Shared b) e = absurd (greater-apart e)
 heaps (Concrete x) (Concrete y) e = ap Concrete (numbers x y e)
 heaps (Concrete x) (Exact y) e = absurd (less-apart e)
 heaps (Exact x) (Abstract b) e = absurd (greater-apart e)
+heaps (Exact x) (Shared b) e = absurd (greater-apart e)
 heaps (Exact x) (Concrete y) e = absurd (greater-apart e)
 heaps (Exact x) (Exact y) e = ap Exact (numbers x y e)
 

@@ -4,7 +4,7 @@
 use Rattle.std.specs.Prelude.{ℕ, ◌+◌, ◌*◌, ◌/◌, ◌^◌, ◌%◌, List, [], ◌∷◌, Option, None, slice_index_or, if◌then◌else◌}
 use Rattle.std.specs.Option.{option_map_or}
 use Rattle.walrus_items.specs.walrus_forms.declared.value.HeapType.{HeapType}
-use Rattle.walrus_items.specs.walrus_forms.declared.value.HeapType.TheVariants.{Abstract, Concrete, Exact}
+use Rattle.walrus_items.specs.walrus_forms.declared.value.HeapType.TheVariants.{Abstract, Shared, Concrete, Exact}
 use Rattle.walrus_items.specs.walrus_forms.declared.value.RefType.{RefType}
 use Rattle.walrus_items.specs.walrus_forms.declared.value.ValType.{ValType}
 use Rattle.walrus_items.specs.walrus_forms.declared.value.ValType.TheVariants.{I32, I64, F32, F64, V128, Ref}
@@ -33,12 +33,13 @@ next_hash hash number = next_first (hash / 2 ^ 64) number * 2 ^ 64 + next_second
 
 abbrev pub heap_number : HeapType → ℕ
 heap_number (Abstract ty) = 8 + abstract_place ty
-heap_number (Concrete id) = 20 + id
-heap_number (Exact id) = 20 + id
+heap_number (Shared ty) = 20 + abstract_place ty
+heap_number (Concrete id) = 32 + id
+heap_number (Exact id) = 32 + id
 
 -- references without null have their numbers behind those with it, as many as heap types have
 abbrev pub ref_number : RefType → ℕ
-ref_number ty = if ty.nullable then heap_number ty.heap_type else heap_number ty.heap_type + (2 ^ 32 + 12)
+ref_number ty = if ty.nullable then heap_number ty.heap_type else heap_number ty.heap_type + (2 ^ 32 + 24)
 
 abbrev pub value_number : ValType → ℕ
 value_number I32 = 1

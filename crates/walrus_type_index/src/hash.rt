@@ -52,8 +52,8 @@ fn next_hash(hash: u128, number: u64) -> u128
     first as u128 * HALF + second as u128
 }
 
-// How many numbers heap types have: one for each abstract type, and one for each id.
-const HEAP_NUMBERS: u64 = (1 << 32) + 12;
+// How many numbers heap types have: one for each abstract type, one for each that is shared, and one for each id.
+const HEAP_NUMBERS: u64 = (1 << 32) + 24;
 
 fn heap_number(ty: &HeapType) -> u64
     ensures number { result ≡ heap_number ty.now }
@@ -61,7 +61,8 @@ fn heap_number(ty: &HeapType) -> u64
 {
     match ty {
         HeapType::Abstract(ty) => 8 + *ty as u64,
-        HeapType::Concrete(id) | HeapType::Exact(id) => 20 + u64::from(id.number()),
+        HeapType::Shared(ty) => 20 + *ty as u64,
+        HeapType::Concrete(id) | HeapType::Exact(id) => 32 + u64::from(id.number()),
     }
 }
 

@@ -346,6 +346,9 @@ module _ (t : Table) (steady : Steady t) (out : List TypeGroup) (indices : List 
       let of = of_split before after g split in
       record {
         below = goes_below before g of;
+        single = λ unmarked.
+            let h = home (length before) of.from of.there in
+            of.sized ∙ steady.single h.turn of.from h.group (ap (λ (w : TypeGroup). w.marked) of.described ∙ unmarked);
         apart = λ k unmarked one. elim (equal_type k (straight before).table) as (λ o. equal_type k (straight before).table ≡ o → o ≡ None) [
           | None ↦ λ is. refl
           | Some found ↦ λ is. absurd (not_found before after g split of k unmarked one found is)

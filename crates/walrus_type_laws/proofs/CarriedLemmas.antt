@@ -19,7 +19,7 @@ use Rattle.walrus_types.specs.Emission.{written_kind, is_written, written_groups
 use Rattle.walrus_types.proofs.MergerLemmas.{parsing-law}
 use Rattle.walrus_types.proofs.SameOnce.{once-law}
 use Rattle.walrus_type_laws.specs.Alike.{AreHomed}
-use Rattle.walrus_type_laws.specs.Rounds.{read, index_map, IsGroupAt, renamed_types, IsCarried, SectionsAreCarried}
+use Rattle.walrus_type_laws.specs.Rounds.{read, index_map, IsGroupAt, is_explicit, carried_group, IsCarried, SectionsAreCarried}
 use Rattle.walrus_types.proofs.OnceLemmas.{reordered}
 use Rattle.walrus_types.proofs.Places.{get, map_at, at_map, same_list, seat, unseat, start, range_at, left_at, right_at}
 use Rattle.walrus_type_laws.proofs.Written.{types_of, Indexed, indexed, group_kinds, group_kind_at, make_entry, described_length, described_at}
@@ -150,7 +150,7 @@ module _ (groups : List TypeGroup) (plain : PlainGroups groups) (below : AreBelo
   -- where a group that wasn't merged away is written
   record Kept (b : ℕ) (g : TypeGroup) : Type 0 where
     place : ℕ
-    there : slice_get hs place ≡ Some (record { explicit = g.marked; types = range_with_len (at ids b) (length g.kinds) })
+    there : slice_get hs place ≡ Some (record { explicit = is_explicit g; types = range_with_len (at ids b) (length g.kinds) })
     each : (k : ℕ) → k < length g.kinds → at ids (b + k) ≡ at ids b + k
 
   kept : (q : ℕ) (g : TypeGroup) → slice_get groups q ≡ Some g → 0 < length g.kinds → at same (length (entries_of (take q groups))) ≡ length (entries_of (take q groups))
@@ -166,7 +166,7 @@ module _ (groups : List TypeGroup) (plain : PlainGroups groups) (below : AreBelo
             let stands : at same m.1 ≡ b = sym (agree m.1 j_in) ∙ (carries.one m.1 b j_in b_in).0 m.3 ∙ agree b b_in ∙ self in
             absurd (omega (arith, stands, same_low (entries_of groups) same is_same m.1 j_in, l))
         | inr h ↦
-            let group : Group = record { explicit = g.marked; types = range_with_len (at ids b) (length g.kinds) } in
+            let group : Group = record { explicit = is_explicit g; types = range_with_len (at ids b) (length g.kinds) } in
             let re = reordered t hs emission.arranged.in_order in
             let at_wg : slice_get (written_groups t) h.0.0 ≡ Some group = ap (λ (gs : List Group). slice_get gs h.0.0) (dense_groups shape.kinds shape.gs t shape.dense) ∙ h.0.1 in
             let turn = re.turns.onto h.0.0 (slice_get_within (written_groups t) h.0.0 group at_wg) in
@@ -180,7 +180,7 @@ module _ (groups : List TypeGroup) (plain : PlainGroups groups) (below : AreBelo
       let a : ℕ = at ids b in
       ap r (kept.each k less)
       ∙ idx.back (start types_of hs kept.place + k) (a + k)
-      (unseat types_of hs kept.place k (record { explicit = g.marked; types = range_with_len a (length g.kinds) }) (a + k) kept.there (range_at a (length g.kinds) k less))
+      (unseat types_of hs kept.place k (record { explicit = is_explicit g; types = range_with_len a (length g.kinds) }) (a + k) kept.there (range_at a (length g.kinds) k less))
 
   kept_first : (b : ℕ) (g : TypeGroup) (kept : Kept b g) → 0 < length g.kinds → r (at ids b) ≡ start types_of hs kept.place
   kept_first b g kept some =
@@ -194,7 +194,7 @@ module _ (groups : List TypeGroup) (plain : PlainGroups groups) (below : AreBelo
   kept_kinds q g is kept =
       let b : ℕ = length (entries_of (take q groups)) in
       let a : ℕ = at ids b in
-      let group : Group = record { explicit = g.marked; types = range_with_len a (length g.kinds) } in
+      let group : Group = record { explicit = is_explicit g; types = range_with_len a (length g.kinds) } in
       let all : (k id : ℕ) → slice_get group.types k ≡ Some id → is_written t id ≡ true = λ k id at_k. idx.all kept.place k group id kept.there at_k in
       let m : ℕ → ℕ = index_map groups indices in
       same_list (map (renamed_kind m) g.kinds) (map (renamed_kind r) (filter_map (written_kind t) group.types))
@@ -211,15 +211,15 @@ module _ (groups : List TypeGroup) (plain : PlainGroups groups) (below : AreBelo
       ∙ sym (length-map (filter_map (written_kind t) group.types) (renamed_kind r) ∙ group_kinds t group all ∙ length-range_with_len a (length g.kinds)))
 
   whole_at : (q : ℕ) (g : TypeGroup) → slice_get groups q ≡ Some g → 0 < length g.kinds → (kept : Kept (length (entries_of (take q groups))) g)
-      → IsGroupAt out (r (at ids (length (entries_of (take q groups))))) (renamed_types (index_map groups indices) g)
+      → IsGroupAt out (r (at ids (length (entries_of (take q groups))))) (carried_group (index_map groups indices) g)
   whole_at q g is some kept =
       let b : ℕ = length (entries_of (take q groups)) in
-      let group : Group = record { explicit = g.marked; types = range_with_len (at ids b) (length g.kinds) } in
+      let group : Group = record { explicit = is_explicit g; types = range_with_len (at ids b) (length g.kinds) } in
       let d : Group → TypeGroup = described_group t r in
       record {
         position = kept.place;
         there = ap (λ (gs : List TypeGroup). slice_get gs kept.place) out_is ∙ at_map d hs kept.place group kept.there
-            ∙ ap (λ (ks : List Kind). let o : Option TypeGroup = Some (record { marked = g.marked; kinds = ks }) in o) (sym (kept_kinds q g is kept));
+            ∙ ap (λ (ks : List Kind). let o : Option TypeGroup = Some (record { marked = is_explicit g; kinds = ks }) in o) (sym (kept_kinds q g is kept));
         before = kept_first b g kept some
             ∙ sym (described_length t r (take kept.place hs) (λ i k h id at_i at_k. idx.all i k h id (front_at kept.place hs i h at_i) at_k))
             ∙ ap (λ (gs : List TypeGroup). length (entries_of gs)) (sym (take-map d kept.place hs) ∙ ap (λ (gs : List TypeGroup). take kept.place gs) (sym out_is));
@@ -233,7 +233,7 @@ module _ (groups : List TypeGroup) (plain : PlainGroups groups) (below : AreBelo
     whole = λ index g at_g some self.
         let e = at_g.before in
         let k = kept at_g.position g at_g.there some (subst (λ (n : ℕ). at same n ≡ n) e self) in
-        subst (λ (n : ℕ). IsGroupAt out (r (at ids n)) (renamed_types (index_map groups indices) g)) (sym e) (whole_at at_g.position g at_g.there some k);
+        subst (λ (n : ℕ). IsGroupAt out (r (at ids n)) (carried_group (index_map groups indices) g)) (sym e) (whole_at at_g.position g at_g.there some k);
     members = λ index g at_g j less self.
         let e = at_g.before in
         let some : 0 < length g.kinds = omega (arith, less) in

@@ -183,9 +183,9 @@ added-filled : (s : Parsed) (marked : Bool) (kinds : List Kind) → Filled s
     → ((i : ℕ) (kind : Kind) → slice_get kinds i ≡ Some kind → (kind.entry ≡ false) × ((m : ℕ) → In m (kind_names kind) → m < next_id s.table + length kinds))
     → Filled (added marked kinds s)
 added-filled s true kinds f each = grown-filled s true kinds f each
-added-filled s false [] f each = grown-filled s false [] f each
+added-filled s false [] f each = grown-filled s true [] f each
 added-filled s false (kind ∷ []) f each = merged-filled s kind (equal_type kind s.table) f (equal-within s.table kind) each
-added-filled s false (kind ∷ second ∷ rest) f each = grown-filled s false (kind ∷ second ∷ rest) f each
+added-filled s false (kind ∷ second ∷ rest) f each = grown-filled s true (kind ∷ second ∷ rest) f each
 
 group-filled : (s : Parsed) (g : TypeGroup) → Filled s → All (KindBelow (length s.ids + length g.kinds)) g.kinds → All (λ (kind : Kind). kind.entry ≡ false) g.kinds
     → Filled (parsed_group g s)

@@ -256,10 +256,10 @@ merged-follows r turn s t kind (Some v) p f is =
 added-follows : (r turn : ℕ → ℕ) (s t : Parsed) (marked : Bool) (kinds : List Kind) → Follows r turn s t
     → Follows r turn (added marked kinds s) (added marked (map (renamed_kind r) kinds) t)
 added-follows r turn s t true kinds f = grown-follows r turn s t true kinds f
-added-follows r turn s t false [] f = grown-follows r turn s t false [] f
+added-follows r turn s t false [] f = grown-follows r turn s t true [] f
 added-follows r turn s t false (kind ∷ []) f =
     merged-follows r turn s t kind (equal_type kind s.table) (equal_type (renamed_kind r kind) t.table) f (equal-follows r turn s t kind f)
-added-follows r turn s t false (kind ∷ second ∷ rest) f = grown-follows r turn s t false (kind ∷ second ∷ rest) f
+added-follows r turn s t false (kind ∷ second ∷ rest) f = grown-follows r turn s t true (kind ∷ second ∷ rest) f
 
 -- the kinds of a group, with ids for their names
 kinds-follow : (f g r turn : ℕ → ℕ) (n : ℕ) → ((m : ℕ) → m < n → g (turn m) ≡ r (f m)) → (ks : List Kind) → All (KindBelow n) ks

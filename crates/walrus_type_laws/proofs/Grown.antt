@@ -3,7 +3,6 @@ use Rattle.std.proofs.Common.{◌≡◌, ◌∙◌, ℕ, zero, suc, ◌+◌, ◌
 use Rattle.std.specs.Prelude.{slice_index_or, MatchOption}
 use Rattle.std.specs.List.{slice_get, range_with_len}
 use Rattle.std.proofs.lemmas.Bool.{false≢true}
-use Rattle.std.proofs.lemmas.List.{length-map}
 use Rattle.std.proofs.lemmas.List.Elements.{All-head, All-tail, All-map}
 use Rattle.std.proofs.lemmas.List.FromFn.{length-range_with_len}
 use Rattle.std.proofs.lemmas.Option.{slice_get_within, get_or_from_slice_get, same_Some, none-some, MatchOption-at_none}
@@ -223,21 +222,20 @@ module _ (P : Table → Type 0) (step : (explicit : Bool) (kinds : List Kind) (t
   merged_kept None kind s none p = step false (kind ∷ []) s.table p (fits_single s.table kind none)
   merged_kept (Some found) kind s is p = p
 
-  added_kept : (marked : Bool) (kinds : List Kind) (s : Parsed) → PlainKinds kinds → (marked ≡ false → length kinds ≡ 1) → P s.table → P (added marked kinds s).table
-  added_kept true kinds s plain single p = step true kinds s.table p (fits_marked s.table kinds plain)
-  added_kept false [] s plain single p = absurd (omega (arith, single refl))
-  added_kept false (kind ∷ []) s plain single p = merged_kept (equal_type kind s.table) kind s refl p
-  added_kept false (kind ∷ other ∷ kinds) s plain single p = absurd (omega (arith, single refl))
+  added_kept : (marked : Bool) (kinds : List Kind) (s : Parsed) → PlainKinds kinds → P s.table → P (added marked kinds s).table
+  added_kept true kinds s plain p = step true kinds s.table p (fits_marked s.table kinds plain)
+  added_kept false [] s plain p = step true [] s.table p (fits_marked s.table [] plain)
+  added_kept false (kind ∷ []) s plain p = merged_kept (equal_type kind s.table) kind s refl p
+  added_kept false (kind ∷ other ∷ kinds) s plain p = step true (kind ∷ other ∷ kinds) s.table p (fits_marked s.table (kind ∷ other ∷ kinds) plain)
 
   pub parsed_kept : (groups : List TypeGroup) (s : Parsed) → AreOrdinary groups → P s.table → P (parsed groups s).table
   parsed_kept [] s ordinary p = p
   parsed_kept (group ∷ groups) s ordinary p =
-      let own = All-head IsOrdinary group groups ordinary in
       let r : ℕ → ℕ = at (known_ids group s) in
       let kinds : List Kind = map (renamed_kind r) group.kinds in
       let plain : PlainKinds kinds =
       λ i kind is.
-      let all = All-map (λ (k : Kind). k.entry ≡ false) (renamed_kind r) group.kinds own.plain in
+      let all = All-map (λ (k : Kind). k.entry ≡ false) (renamed_kind r) group.kinds (All-head IsOrdinary group groups ordinary) in
       subst (λ (k : Kind). k.entry ≡ false) (get_or_from_slice_get kinds i kind kind is) (all i kind (slice_get_within kinds i kind is)) in
       parsed_kept groups (parsed_group group s) (All-tail IsOrdinary group groups ordinary)
-      (added_kept group.marked kinds s plain (λ unmarked. length-map group.kinds (renamed_kind r) ∙ own.single unmarked) p)
+      (added_kept group.marked kinds s plain p)

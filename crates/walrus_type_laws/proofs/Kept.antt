@@ -49,9 +49,9 @@ merged-keeps old s kind (Some v) k = k
 
 added-keeps : (old : Table) (s : Parsed) (marked : Bool) (kinds : List Kind) → Keeps old s.table → Keeps old (added marked kinds s).table
 added-keeps old s true kinds k = grown-keeps old s.table true kinds k
-added-keeps old s false [] k = grown-keeps old s.table false [] k
+added-keeps old s false [] k = grown-keeps old s.table true [] k
 added-keeps old s false (kind ∷ []) k = merged-keeps old s kind (equal_type kind s.table) k
-added-keeps old s false (kind ∷ second ∷ rest) k = grown-keeps old s.table false (kind ∷ second ∷ rest) k
+added-keeps old s false (kind ∷ second ∷ rest) k = grown-keeps old s.table true (kind ∷ second ∷ rest) k
 
 section-keeps : (gs : List TypeGroup) (old : Table) (s : Parsed) → Keeps old s.table → Keeps old (parsed gs s).table
 section-keeps [] old s k = k

@@ -7,7 +7,7 @@ use Rattle.std.specs.Cmp.{IsTotalOrder}
 use Rattle.std.specs.Cmp.Lexicographic.{slice_cmp}
 use Rattle.std.proofs.lemmas.Cmp.{lists_total, nat_cmp_total}
 use Rattle.walrus_forms.specs.declared.value.HeapType.{HeapType}
-use Rattle.walrus_forms.specs.declared.value.HeapType.TheVariants.{Abstract, Concrete, Exact}
+use Rattle.walrus_forms.specs.declared.value.HeapType.TheVariants.{Abstract, Shared, Concrete, Exact}
 use Rattle.walrus_forms.specs.declared.value.RefType.{RefType}
 use Rattle.walrus_forms.specs.declared.value.ValType.{ValType}
 use Rattle.walrus_forms.specs.declared.value.ValType.TheVariants.{I32, I64, F32, F64, V128, Ref}
@@ -79,6 +79,7 @@ lists-kept {X} F each (x ∷ xs) = ap (λ (y : X). y ∷ map F xs) (each x) ∙ 
 
 heaps-kept : (h : HeapType) → renamed_heap (λ m. m) h ≡ h
 heaps-kept (Abstract ty) = refl
+heaps-kept (Shared ty) = refl
 heaps-kept (Concrete m) = refl
 heaps-kept (Exact m) = refl
 

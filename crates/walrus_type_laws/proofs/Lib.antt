@@ -16,6 +16,7 @@ pub mod Deleted
 pub mod EditLemmas
 pub mod Grown
 pub mod LocalLemmas
+pub mod Marked
 pub mod OrdinaryLemmas
 mod Exchange
 mod Filled

@@ -1,7 +1,7 @@
 -- What a new table is after groups were read into it.
-use Rattle.std.proofs.Common.{◌≡◌, ◌∙◌, ℕ, zero, suc, ◌+◌, ◌-◌, ◌<◌, ◌≤◌, ◌⊎◌, inl, inr, Bool, true, false, List, [], ◌∷◌, ◌++◌, length, map, take, Option, Some, refl, sym, ap, subst, arith, length-append}
+use Rattle.std.proofs.Common.{◌≡◌, ◌∙◌, ℕ, zero, suc, ◌+◌, ◌-◌, ◌<◌, ◌≤◌, ◌⊎◌, inl, inr, Bool, true, false, not, ◌==◌, List, [], ◌∷◌, ◌++◌, length, map, take, Option, Some, refl, sym, ap, subst, arith, length-append}
 use Rattle.std.specs.List.{slice_get, range_with_len}
-use Rattle.std.proofs.lemmas.Bool.{cases_lt}
+use Rattle.std.proofs.lemmas.Bool.{false≢true, cases_lt, and_parts, eqb-true}
 use Rattle.std.proofs.lemmas.List.{append-nil, get_or_append_left, get_or-append-add, length-map, take_at, take-append-le}
 use Rattle.std.proofs.lemmas.List.FromFn.{length-range_with_len, get_or-range_with_len}
 use Rattle.std.proofs.lemmas.Option.{slice_get_within, same_Some, none-some}
@@ -12,6 +12,7 @@ use Rattle.walrus_types.specs.Items.{Group}
 use Rattle.walrus_types.specs.Table.{next_id, names_itself}
 use Rattle.walrus_types.specs.Parsing.{Parsed, with_group}
 use Rattle.walrus_types.specs.Mergers.{Entry, is_single, entries_of}
+use Rattle.walrus_type_laws.specs.Rounds.{is_explicit}
 use Rattle.walrus_types.proofs.Places.{Has, get, append_at, left_at, right_at}
 use Rattle.walrus_type_laws.proofs.Dense.{Dense, dense_length, dense_member, one_group, one_is, of_one, dense_more}
 
@@ -37,12 +38,24 @@ before_end (h ∷ gs) (suc p) g is = omega (arith, before_end gs p g is, entries
 abbrev pub Stood : List ℕ → List Group → ℕ → TypeGroup → Type 0
 Stood ids gs b g =
     ((is_single g ≡ true) × (j : ℕ) × (j < b) × (at ids j ≡ at ids b))
-    ⊎ (Has gs (record { explicit = g.marked; types = range_with_len (at ids b) (length g.kinds) }) × ((k : ℕ) → k < length g.kinds → at ids (b + k) ≡ at ids b + k))
+    ⊎ (Has gs (record { explicit = is_explicit g; types = range_with_len (at ids b) (length g.kinds) }) × ((k : ℕ) → k < length g.kinds → at ids (b + k) ≡ at ids b + k))
 
 -- no single type equals an earlier one, unless one of them names itself
 abbrev pub NoTwins : List Kind → List Group → Type 0
 NoTwins kinds gs = (p a b : ℕ) (k : Kind) → slice_get gs p ≡ Some (record { explicit = false; types = b ∷ [] }) → a < b
     → slice_get kinds a ≡ Some k → slice_get kinds b ≡ Some k → names_itself a k ≡ false → names_itself b k ≡ false → ⊥
+
+-- groups without a mark have one member
+abbrev pub UnmarkedHaveOne : List Group → Type 0
+UnmarkedHaveOne gs = (p : ℕ) (g : Group) → slice_get gs p ≡ Some g → g.explicit ≡ false → length g.types ≡ 1
+
+pub not_false : (b : Bool) → not b ≡ false → b ≡ true
+not_false true h = refl
+not_false false h = absurd (false≢true (sym h))
+
+-- one that isn't explicit is of one type
+one_unmarked : (g : TypeGroup) → is_explicit g ≡ false → length g.kinds ≡ 1
+one_unmarked g h = eqb-true (length g.kinds) 1 (and_parts (not g.marked) (length g.kinds == 1) (not_false (is_single g) h)).1
 
 pub record Shape (done : List TypeGroup) (s : Parsed) : Type 0 where
   pub kinds : List Kind
@@ -52,6 +65,7 @@ pub record Shape (done : List TypeGroup) (s : Parsed) : Type 0 where
   pub reached : (v : ℕ) → v < length kinds → (i : ℕ) × (i < length s.ids) × (at s.ids i ≡ v)
   pub stood : (p : ℕ) (g : TypeGroup) → slice_get done p ≡ Some g → 0 < length g.kinds → Stood s.ids gs (length (entries_of (take p done))) g
   pub twins : NoTwins kinds gs
+  pub single : UnmarkedHaveOne gs
 
 at_left : (ids more : List ℕ) (i : ℕ) → i < length ids → at (ids ++ more) i ≡ at ids i
 at_left ids more i less = get_or_append_left ids more 0 i less
@@ -64,8 +78,8 @@ stood_kept ids more gs news b g some fits stood =
       | inr h ↦ inr (
         (
           h.0.0,
-          left_at gs news h.0.0 (record { explicit = g.marked; types = range_with_len (at (ids ++ more) b) (length g.kinds) })
-              (h.0.1 ∙ ap (λ (n : ℕ). let o : Option Group = Some (record { explicit = g.marked; types = range_with_len n (length g.kinds) }) in o) (sym first)),
+          left_at gs news h.0.0 (record { explicit = is_explicit g; types = range_with_len (at (ids ++ more) b) (length g.kinds) })
+              (h.0.1 ∙ ap (λ (n : ℕ). let o : Option Group = Some (record { explicit = is_explicit g; types = range_with_len n (length g.kinds) }) in o) (sym first)),
         ),
         λ k less. at_left ids more (b + k) (omega (arith, less, fits)) ∙ h.1 k less ∙ ap (λ (n : ℕ). n + k) (sym first),
       )
@@ -139,12 +153,13 @@ shape_merged done g s found shape single one less =
                 )
           ];
       twins = shape.twins;
+      single = shape.single;
     }
 
 -- new types
 pub shape_more : (done : List TypeGroup) (g : TypeGroup) (s : Parsed) (ks : List Kind) (shape : Shape done s) → length ks ≡ length g.kinds → ((i : ℕ) (k : Kind) → slice_get ks i ≡ Some k → k.entry ≡ false)
-    → (g.marked ≡ false → length ks ≡ 1 → (a : ℕ) (k : Kind) → slice_get shape.kinds a ≡ Some k → slice_get ks 0 ≡ Some k → names_itself a k ≡ false → names_itself (length shape.kinds) k ≡ false → ⊥)
-    → Shape (done ++ g ∷ []) (record { ids = s.ids ++ range_with_len (next_id s.table) (length ks); table = with_group g.marked ks s.table })
+    → (is_explicit g ≡ false → length ks ≡ 1 → (a : ℕ) (k : Kind) → slice_get shape.kinds a ≡ Some k → slice_get ks 0 ≡ Some k → names_itself a k ≡ false → names_itself (length shape.kinds) k ≡ false → ⊥)
+    → Shape (done ++ g ∷ []) (record { ids = s.ids ++ range_with_len (next_id s.table) (length ks); table = with_group (is_explicit g) ks s.table })
 shape_more done g s ks shape count plain alone =
     let kinds : List Kind = shape.kinds in
     let n : ℕ = length kinds in
@@ -152,14 +167,14 @@ shape_more done g s ks shape count plain alone =
     let next : ℕ = next_id s.table in
     let len : next ≡ n = dense_length kinds shape.gs s.table shape.dense in
     let own : List ℕ = range_with_len next c in
-    let news : List Group = one_group g.marked (range_with_len n c) in
+    let news : List Group = one_group (is_explicit g) (range_with_len n c) in
     let m : ℕ = length s.ids in
     let later : (k : ℕ) → k < c → at (s.ids ++ own) (m + k) ≡ next + k =
     λ k less. get_or-append-add s.ids own k 0 ∙ get_or-range_with_len next c k 0 less in
     record {
       kinds = kinds ++ ks;
       gs = shape.gs ++ news;
-      dense = dense_more kinds ks shape.gs s.table g.marked shape.dense plain;
+      dense = dense_more kinds ks shape.gs s.table (is_explicit g) shape.dense plain;
       sized = omega (arith, length-append s.ids own, length-range_with_len next c, shape.sized, entries_push done g, count);
       reached = λ v small.
           elim (cases_lt v n) as (λ _. (i : ℕ) × (i < length (s.ids ++ own)) × (at (s.ids ++ own) i ≡ v)) [
@@ -183,12 +198,12 @@ shape_more done g s ks shape count plain alone =
                 let first : at (s.ids ++ own) b ≡ n =
                 let z : b ≡ b + 0 = omega arith in
                 ap (λ (i : ℕ). at (s.ids ++ own) i) z ∙ omega (arith, each 0 (omega (arith, some, here)), len) in
-                let group : Group = record { explicit = h.marked; types = range_with_len (at (s.ids ++ own) b) (length h.kinds) } in
+                let group : Group = record { explicit = is_explicit h; types = range_with_len (at (s.ids ++ own) b) (length h.kinds) } in
                 let made : news ≡ group ∷ [] =
-                one_is g.marked (range_with_len n c) (omega (arith, length-range_with_len n c, some, here))
-                ∙ ap (λ (e : Bool). let hs : List Group = record { explicit = e; types = range_with_len n c } ∷ [] in hs) (ap (λ (w : TypeGroup). w.marked) (sym new.0))
-                ∙ ap (λ (x : ℕ). let hs : List Group = record { explicit = h.marked; types = range_with_len x c } ∷ [] in hs) (sym first)
-                ∙ ap (λ (x : ℕ). let hs : List Group = record { explicit = h.marked; types = range_with_len (at (s.ids ++ own) b) x } ∷ [] in hs) (sym here) in
+                one_is (is_explicit g) (range_with_len n c) (omega (arith, length-range_with_len n c, some, here))
+                ∙ ap (λ (e : Bool). let hs : List Group = record { explicit = e; types = range_with_len n c } ∷ [] in hs) (ap (λ (w : TypeGroup). is_explicit w) (sym new.0))
+                ∙ ap (λ (x : ℕ). let hs : List Group = record { explicit = is_explicit h; types = range_with_len x c } ∷ [] in hs) (sym first)
+                ∙ ap (λ (x : ℕ). let hs : List Group = record { explicit = is_explicit h; types = range_with_len (at (s.ids ++ own) b) x } ∷ [] in hs) (sym here) in
                 inr (
                   (length shape.gs, right_at shape.gs news 0 (length shape.gs) group (omega arith) (ap (λ (hs : List Group). slice_get hs 0) made)),
                   λ k less. each k (omega (arith, less, here)) ∙ ap (λ (x : ℕ). x + k) (len ∙ sym first),
@@ -200,12 +215,19 @@ shape_more done g s ks shape count plain alone =
                 let small : b < n = dense_member kinds shape.gs s.table shape.dense p 0 (record { explicit = false; types = b ∷ [] }) b old refl in
                 shape.twins p a b k old less (at_front kinds ks a k (omega (arith, less, small)) at_a) (at_front kinds ks b k small at_b) apart_a apart_b
             | inr new ↦
-                let o = of_one g.marked (range_with_len n c) new.0 (record { explicit = false; types = b ∷ [] }) new.2 in
-                let marked : g.marked ≡ false = ap (λ (w : Group). w.explicit) (sym o.0) in
+                let o = of_one (is_explicit g) (range_with_len n c) new.0 (record { explicit = false; types = b ∷ [] }) new.2 in
+                let unmarked : is_explicit g ≡ false = ap (λ (w : Group). w.explicit) (sym o.0) in
                 let types : b ∷ [] ≡ range_with_len n c = ap (λ (w : Group). w.types) o.0 in
                 let one : c ≡ 1 = sym (length-range_with_len n c) ∙ ap (λ (xs : List ℕ). length xs) (sym types) in
                 let b_is : b ≡ n = same_Some b n (ap (λ (xs : List ℕ). slice_get xs 0) (types ∙ ap (λ (x : ℕ). range_with_len n x) one)) in
                 let new_kind : slice_get ks 0 ≡ Some k = at_back kinds ks 0 b k (omega (arith, b_is)) at_b in
-                alone marked one a k (at_front kinds ks a k (omega (arith, less, b_is)) at_a) new_kind apart_a (ap (λ (x : ℕ). names_itself x k) (sym b_is) ∙ apart_b)
+                alone unmarked one a k (at_front kinds ks a k (omega (arith, less, b_is)) at_a) new_kind apart_a (ap (λ (x : ℕ). names_itself x k) (sym b_is) ∙ apart_b)
+          ];
+      single = λ p group at_p unmarked.
+          elim (append_at shape.gs news p group at_p) as (λ _. length group.types ≡ 1) [
+            | inl old ↦ shape.single p group old unmarked
+            | inr new ↦
+                let o = of_one (is_explicit g) (range_with_len n c) new.0 group new.2 in
+                ap (λ (w : Group). length w.types) o.0 ∙ length-range_with_len n c ∙ count ∙ one_unmarked g (sym (ap (λ (w : Group). w.explicit) o.0) ∙ unmarked)
           ];
     }

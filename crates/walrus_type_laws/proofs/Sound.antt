@@ -18,11 +18,11 @@ use Rattle.walrus_types.specs.Emission.{written_kind, is_written, written_in, fa
 use Rattle.walrus_types.proofs.Places.{map_at}
 use Rattle.walrus_type_laws.specs.Alike.{renamed_group, AreHomed, Alike}
 use Rattle.walrus_type_laws.specs.Rounds.{read}
-use Rattle.walrus_type_laws.specs.Edited.{EditedAreSound}
+use Rattle.walrus_type_laws.specs.Edited.{explicit_group, EditedAreSound}
 use Rattle.walrus_type_laws.proofs.AlikeLemmas.{kind_renamed, written_renamed, groups_same, index_same}
 use Rattle.walrus_type_laws.proofs.AgainLemmas.{alike, straight_is}
 use Rattle.walrus_type_laws.proofs.Faults.{or_none, item_tests}
-use Rattle.walrus_type_laws.proofs.Steady.{edited_steady}
+use Rattle.walrus_type_laws.proofs.Marked.{marked_table, marked_steady, marked_emission, read_marked}
 use Rattle.walrus_type_laws.proofs.Straight.{straight}
 use Rattle.walrus_type_laws.proofs.Written.{AllWritten, filter_all, indexed, kind_of, written_item}
 
@@ -103,8 +103,11 @@ only_memory t none Later refusal = absurd (none Later refusal)
 
 pub sound-law : EditedAreSound
 sound-law t grouped merged out indices emission =
-    let steady = edited_steady t grouped merged in
+    let v = marked_table t in
+    let records = map explicit_group out in
+    let steady = marked_steady t grouped merged in
+    let written = marked_emission t grouped merged out indices emission in
     let r : ℕ → ℕ = index_at indices in
     only_memory (read out).table (λ fault has.
-    no_fault r t (straight out).table steady.homed (alike t steady out indices emission) out indices emission fault
-    (subst (λ (p : Parsed). HasFault p.table fault) (straight_is t steady out indices emission) has))
+    no_fault r v (straight records).table steady.homed (alike v steady records indices written) records indices written fault
+    (subst (λ (p : Parsed). HasFault p.table fault) (sym (read_marked out) ∙ straight_is v steady records indices written) has))

@@ -1,5 +1,5 @@
 -- Tables that are emitted so that they are read back: the groups that are written have just the types that
--- are written, by rising ids, and no single type equals an earlier one.
+-- are written, by rising ids, no single type equals an earlier one, and groups without a mark have one member.
 use Rattle.std.proofs.Common.{◌≡◌, ◌∙◌, ℕ, ◌+◌, ◌<◌, inl, inr, Bool, true, false, not, ◌||◌, Contains, List, [], ◌∷◌, length, Option, Some, None, is_some, if◌then◌else◌, refl, sym, ap, arith}
 use Rattle.std.specs.List.{slice_get, list_any}
 use Rattle.std.specs.Option.{option_and_then}
@@ -13,7 +13,7 @@ use Rattle.walrus_forms.proofs.EqLemmas.{same-kind-law}
 use Rattle.walrus_types.specs.Items.{Item, Group}
 use Rattle.walrus_types.specs.Table.{Table, type_at, names_itself, merges}
 use Rattle.walrus_types.specs.TypeLaws.{AreGrouped}
-use Rattle.walrus_types.specs.Merged.{IsMerged}
+use Rattle.walrus_types.specs.Merged.{IsMerged, UnmarkedAreSingle}
 use Rattle.walrus_types.specs.Parsing.{Parsed}
 use Rattle.walrus_types.specs.Emission.{shown_kind, written_kind, is_written, written_groups}
 use Rattle.walrus_types.proofs.OnceLemmas.{is_shown, written_place, place_written, written_rise, written_apart}
@@ -30,6 +30,7 @@ pub record Steady (t : Table) : Type 0 where
       → slice_get g.types j ≡ Some a → slice_get h.types k ≡ Some b → a < b
   pub twins : (p a b : ℕ) (k : Kind) → slice_get (written_groups t) p ≡ Some (record { explicit = false; types = b ∷ [] }) → a < b
       → written_kind t a ≡ Some k → written_kind t b ≡ Some k → names_itself a k ≡ false → names_itself b k ≡ false → ⊥
+  pub single : (p : ℕ) (g : Group) → slice_get (written_groups t) p ≡ Some g → g.explicit ≡ false → length g.types ≡ 1
 
 -- the table after a section was read into a new one
 pub shape_steady : (groups : List TypeGroup) (s : Parsed) → Shape groups s → Steady s.table
@@ -51,6 +52,7 @@ shape_steady groups s shape =
       twins = λ p a b k at less is_a is_b apart_a apart_b.
           shape.twins p a b k (stands p (record { explicit = false; types = b ∷ [] }) at) less
           (dense_kind shape.kinds shape.gs t shape.dense a k is_a) (dense_kind shape.kinds shape.gs t shape.dense b k is_b) apart_a apart_b;
+      single = λ p g at. shape.single p g (stands p g at);
     }
 
 written_live : (o : Option Item) → is_some (option_and_then (λ item. shown_kind item.kind) o) ≡ true → (item : Item) × (o ≡ Some item)
@@ -114,22 +116,25 @@ module _ (t : Table) (grouped : AreGrouped t) where
         let place : s.place ≡ z.place = once_of s.from.types (grouped.once live.0 s.from live.1) s.place z.place id s.at_place (ap (λ (g : Group). slice_get g.types z.place) (sym from) ∙ z.at_place) in
         omega (arith, s.is, z.is, place, ap (λ (p : ℕ). start types_of wg p) piece)
 
+    pub edited_homed : AreHomed t
+    edited_homed = record {
+      homed = λ id. (
+        λ c.
+            let h = contains_has (members t) id c in
+            let s = seat types_of (written_groups t) h.0 id h.1 in
+            member_written s.piece s.from id s.at_piece (has_contains s.from.types id (s.place, s.at_place)),
+        λ written.
+            let home = written_home id written in
+            let k = contains_has (home.1).types id home.3 in
+            has_contains (members t) id (start types_of (written_groups t) home.0 + k.0, unseat types_of (written_groups t) home.0 k.0 home.1 id home.2 k.1),
+      );
+      once = once_to (members t) members_once;
+    }
+
     -- the table that is edited
-    pub edited_steady : Steady t
-    edited_steady = record {
-      homed = record {
-        homed = λ id. (
-          λ c.
-              let h = contains_has (members t) id c in
-              let s = seat types_of (written_groups t) h.0 id h.1 in
-              member_written s.piece s.from id s.at_piece (has_contains s.from.types id (s.place, s.at_place)),
-          λ written.
-              let home = written_home id written in
-              let k = contains_has (home.1).types id home.3 in
-              has_contains (members t) id (start types_of (written_groups t) home.0 + k.0, unseat types_of (written_groups t) home.0 k.0 home.1 id home.2 k.1),
-        );
-        once = once_to (members t) members_once;
-      };
+    pub edited_steady : UnmarkedAreSingle t → Steady t
+    edited_steady single = record {
+      homed = edited_homed;
       filled = λ p g at. filled_any (is_written t) g.types (written_place t p g at).2;
       rising = λ p q j k a b g h before at_p at_q at_j at_k.
           let two = written_rise t p q g h before at_p at_q in
@@ -143,4 +148,5 @@ module _ (t : Table) (grouped : AreGrouped t) where
           let passes : merges (y.0).kind (a, x.0) ≡ true =
           and_from (same_kind (x.0).kind (y.0).kind) (not (names_itself a (x.0).kind)) ((same-kind-law (x.0).kind (y.0).kind).1 same) (ap not (ap (λ (i : Kind). names_itself a i) x.2 ∙ apart_a)) in
           false≢true (sym fails ∙ passes);
+      single = λ p g at. let place = written_place t p g at in single place.0 g place.1;
     }

@@ -62,17 +62,18 @@ maps_kept : (f : Kind → Kind) (ks : List Kind) → ((i : ℕ) (k : Kind) → s
 maps_kept f [] all = refl
 maps_kept f (k ∷ ks) all = ap (λ (x : Kind). x ∷ map f ks) (all 0 k refl) ∙ ap (λ (xs : List Kind). k ∷ xs) (maps_kept f ks (λ i x is. all (suc i) x is))
 
--- where no equal type is found the types are added
-added_is : (marked : Bool) (ks : List Kind) (s : Parsed) → ((k : Kind) → marked ≡ false → ks ≡ k ∷ [] → equal_type k s.table ≡ None)
+-- where no equal type is found the types are added, with the mark that they have where those without one are single
+added_is : (marked : Bool) (ks : List Kind) (s : Parsed) → (marked ≡ false → length ks ≡ 1) → ((k : Kind) → marked ≡ false → ks ≡ k ∷ [] → equal_type k s.table ≡ None)
     → added marked ks s ≡ record { ids = s.ids ++ range_with_len (next_id s.table) (length ks); table = with_group marked ks s.table }
-added_is true ks s none = refl
-added_is false [] s none = refl
-added_is false (k ∷ []) s none = ap (λ (o : Option ℕ). merged o k s) (none k refl refl)
-added_is false (k ∷ l ∷ ks) s none = refl
+added_is true ks s single none = refl
+added_is false [] s single none = absurd (omega (arith, single refl))
+added_is false (k ∷ []) s single none = ap (λ (o : Option ℕ). merged o k s) (none k refl refl)
+added_is false (k ∷ l ∷ ks) s single none = absurd (omega (arith, single refl))
 
--- the next group merges with nothing, and names types below its end
+-- the next group has one type where it has no mark, merges with nothing, and names types below its end
 pub record Goes (done : List TypeGroup) (g : TypeGroup) : Type 0 where
   pub below : (i : ℕ) (k : Kind) (m : ℕ) → slice_get g.kinds i ≡ Some k → In m (kind_names k) → m < length (all_kinds done) + length g.kinds
+  pub single : g.marked ≡ false → length g.kinds ≡ 1
   pub apart : (k : Kind) → g.marked ≡ false → g.kinds ≡ k ∷ [] → equal_type k (straight done).table ≡ None
 
 grown_state : (ks more : List Kind) (gs : List Group) (marked : Bool)
@@ -116,7 +117,7 @@ straight_step done g goes =
     let groups : hs ++ own ≡ groups_from 0 (done ++ g ∷ []) =
     ap (λ (xs : List Group). hs ++ xs) (sym (append-nil own)) ∙ sym (groups_append 0 n done (g ∷ []) (omega arith)) in
     ap (λ (xs : List Kind). added g.marked xs s) (maps_kept (renamed_kind (at (known_ids g s))) g.kinds keeps)
-    ∙ added_is g.marked g.kinds s goes.apart
+    ∙ added_is g.marked g.kinds s goes.single goes.apart
     ∙ grown_state ks g.kinds hs g.marked
     ∙ ap (λ (xs : List Kind). state xs (hs ++ own)) kinds
     ∙ ap (λ (xs : List Group). state (all_kinds (done ++ g ∷ [])) xs) groups

@@ -6,18 +6,21 @@ use Rattle.walrus_types.specs.Table.{Table}
 use Rattle.walrus_types.specs.Merged.{UnmarkedAreSingle}
 use Rattle.walrus_types.specs.Emission.{IsEmission}
 
--- the group has one type where it has no mark, and none of its types is an entry type
-pub record IsOrdinary (group : TypeGroup) : Type 0 where
-  pub single : group.marked ≡ false → length group.kinds ≡ 1
-  pub plain : All (λ kind. kind.entry ≡ false) group.kinds
+-- none of the group's types is an entry type
+abbrev pub IsOrdinary : TypeGroup → Type 0
+IsOrdinary group = All (λ kind. kind.entry ≡ false) group.kinds
 
 abbrev pub AreOrdinary : List TypeGroup → Type 0
 AreOrdinary groups = All IsOrdinary groups
 
--- records are ordinary where those without a mark have one type
+-- records are ordinary
 abbrev pub RecordsAreOrdinary : Type 0
-RecordsAreOrdinary = (section : List GroupRecord) → All (λ r. r.marked ≡ false → length r.types.items ≡ 1) section → AreOrdinary (map type_group section)
+RecordsAreOrdinary = (section : List GroupRecord) → AreOrdinary (map type_group section)
 
--- what a table is written as is ordinary where its groups without a mark have one member
+-- the group has one type where it has no mark
+abbrev pub IsSingleUnmarked : TypeGroup → Type 0
+IsSingleUnmarked group = group.marked ≡ false → length group.kinds ≡ 1
+
+-- what a table is written as is ordinary, and has one type in each group without a mark where the table's groups without a mark have one member
 abbrev pub EmittedAreOrdinary : Type 0
-EmittedAreOrdinary = (t : Table) → UnmarkedAreSingle t → (out : List TypeGroup) (indices : List (Option ℕ)) → IsEmission t out indices → AreOrdinary out
+EmittedAreOrdinary = (t : Table) (out : List TypeGroup) (indices : List (Option ℕ)) → IsEmission t out indices → AreOrdinary out × (UnmarkedAreSingle t → All IsSingleUnmarked out)

@@ -1,12 +1,12 @@
 -- A section of types that is parsed and emitted, and parsed and emitted again.
-use Rattle.std.specs.Prelude.{◌≡◌, ◌↔◌, ℕ, ◌+◌, ◌<◌, List, [], length, map, take, Option, Some}
+use Rattle.std.specs.Prelude.{◌≡◌, ◌↔◌, ℕ, ◌+◌, ◌<◌, Bool, not, List, [], length, map, take, Option, Some}
 use Rattle.std.specs.List.{slice_get}
 use Rattle.walrus_forms.specs.declared.record.GroupRecord.{GroupRecord}
 use Rattle.walrus_forms.specs.Records.{TypeGroup, type_group}
 use Rattle.walrus_forms.specs.Renaming.{at, renamed_kind}
 use Rattle.walrus_types.specs.Table.{Table}
 use Rattle.walrus_types.specs.Parsing.{Parsed, parsed, unparsed, AreBelow}
-use Rattle.walrus_types.specs.Mergers.{Entry, entries_of, IsSame}
+use Rattle.walrus_types.specs.Mergers.{Entry, is_single, entries_of, IsSame}
 use Rattle.walrus_types.specs.Emission.{index_at, IsEmission}
 
 abbrev pub empty_table : Table
@@ -30,6 +30,14 @@ pub record IsGroupAt (groups : List TypeGroup) (index : ℕ) (group : TypeGroup)
 abbrev pub renamed_types : (ℕ → ℕ) → TypeGroup → TypeGroup
 renamed_types m group = record { marked = group.marked; kinds = map (renamed_kind m) group.kinds }
 
+-- a group is explicit in the table into which it is read, but where it is of one type without a mark
+abbrev pub is_explicit : TypeGroup → Bool
+is_explicit group = not (is_single group)
+
+-- a group as that table writes it, with each name replaced
+abbrev pub carried_group : (ℕ → ℕ) → TypeGroup → TypeGroup
+carried_group m group = record { marked = is_explicit group; kinds = map (renamed_kind m) group.kinds }
+
 -- m carries the types of a section, of which `same` says which stand for which, onto those of `out`
 pub record IsCarried (groups : List TypeGroup) (same : List ℕ) (m : ℕ → ℕ) (out : List TypeGroup) : Type 0 where
   -- types go to one index exactly where they stand for one type
@@ -39,9 +47,9 @@ pub record IsCarried (groups : List TypeGroup) (same : List ℕ) (m : ℕ → �
   -- a type goes to one of its kind, in which each name is the index that it goes to
   pub kinds : (i : ℕ) (e : Entry) → slice_get (entries_of groups) i ≡ Some e
       → (other : Entry) × (slice_get (entries_of out) (m i) ≡ Some other) × (other.kind ≡ renamed_kind m e.kind)
-  -- a group whose types stand for themselves goes to a group, marked as it was, member by member
+  -- a group whose types stand for themselves goes to a group, marked but where it is of one type without a mark, member by member
   pub whole : (index : ℕ) (group : TypeGroup) → IsGroupAt groups index group → 0 < length group.kinds → at same index ≡ index
-      → IsGroupAt out (m index) (renamed_types m group)
+      → IsGroupAt out (m index) (carried_group m group)
   pub members : (index : ℕ) (group : TypeGroup) → IsGroupAt groups index group → (k : ℕ) → k < length group.kinds → at same index ≡ index
       → m (index + k) ≡ m index + k
 

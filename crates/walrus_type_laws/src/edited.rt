@@ -16,13 +16,12 @@ pub fn own_ids_are_kept()
     ensures { OwnIdsAreKept }
 {}
 
-/// What a table emits has one type in each group without a mark, where the table's groups have one.
+/// What a table emits has no entry types, and one type in each group without a mark where the table's groups have one.
 pub fn emitted_are_ordinary()
     ensures { EmittedAreOrdinary }
 {}
 
-/// Records of a type section describe no entry types, so that they are ordinary where those without a
-/// mark have one type.
+/// Records of a type section describe no entry types, so that they are ordinary.
 pub fn records_are_ordinary()
     ensures { RecordsAreOrdinary }
 {}

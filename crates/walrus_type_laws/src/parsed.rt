@@ -23,13 +23,14 @@ pub fn second_round_is_first()
 {}
 
 /// What a table emits after adds and deletes is read back into a new table as the same types, each under
-/// its index. Asks that no single type equals an earlier one: adds keep this, and deletes where groups
-/// without a mark have one member.
+/// its index, groups of several types explicit. Asks that no single type equals an earlier one: adds
+/// keep this, and deletes where groups without a mark have one member, as all have that calls make.
 pub fn edited_are_read_back()
     ensures { EditedAreReadBack }
 {}
 
-/// What was read back so is emitted as it was, each type at its index.
+/// What was read back so is emitted as it was, each type at its index; a group of several types without
+/// a mark, which no call makes, has one then.
 pub fn edited_are_written_again()
     ensures { EditedAreWrittenAgain }
 {}

@@ -8,7 +8,7 @@ use Rattle.std.proofs.lemmas.Bool.Decides.{nat_tests}
 use Rattle.std.proofs.lemmas.List.Elements.{All-nil, All-cons}
 use Rattle.std.proofs.lemmas.Option.{none-some}
 use Rattle.walrus_type_arenas.specs.walrus_type_index.walrus_items.walrus_forms.declared.value.HeapType.{HeapType}
-use Rattle.walrus_type_arenas.specs.walrus_type_index.walrus_items.walrus_forms.declared.value.HeapType.TheVariants.{Abstract, Concrete, Exact}
+use Rattle.walrus_type_arenas.specs.walrus_type_index.walrus_items.walrus_forms.declared.value.HeapType.TheVariants.{Abstract, Shared, Concrete, Exact}
 use Rattle.walrus_type_arenas.specs.walrus_type_index.walrus_items.walrus_forms.declared.value.ValType.{ValType}
 use Rattle.walrus_type_arenas.specs.walrus_type_index.walrus_items.walrus_forms.declared.value.ValType.TheVariants.{I32, I64, F32, F64, V128, Ref}
 use Rattle.walrus_type_arenas.specs.walrus_type_index.walrus_items.walrus_forms.declared.value.StorageType.{StorageType}
@@ -52,6 +52,7 @@ module _ (f : ℕ → Option IrError) (r : ℕ → ℕ) (n : ℕ) (below : (name
 
   heap-below : (ty : HeapType) → Sound (heap_name ty) → HeapBelow n (renamed_heap r ty)
   heap-below (Abstract ty) sound = tt
+  heap-below (Shared ty) sound = tt
   heap-below (Concrete name) sound = below name sound
   heap-below (Exact name) sound = below name sound
 

@@ -686,7 +686,7 @@ group-step : (entries : List Entry) (same reps : List ℕ) (s : Parsed) (marked 
     → (let g : TypeGroup = record { marked = marked; kinds = ks } in
     Grown (entries ++ map (λ (kind : Kind). let x : Entry = record { single = is_single g; kind = kind } in x) ks) (parsed_group g s))
 group-step entries same reps s true ks h below = others-step entries same reps s true ks h below
-group-step entries same reps s false [] h below = others-step entries same reps s false [] h below
+group-step entries same reps s false [] h below = others-step entries same reps s true [] h below
 group-step entries same reps s false (k ∷ []) h below =
     let K : Kind = renamed_kind (at (s.ids ++ next_id s.table ∷ [])) k in
     single-cases entries same reps s k (names_itself (next_id s.table) K) (latest_id (merges K) s.table) h (below 0 k (omega arith)) refl (latest-law s.table (merges K))
@@ -698,7 +698,7 @@ group-step entries same reps s false (k ∷ second ∷ rest) h below =
       | inr other ↦ other
     ] in
     subst (λ (b : Bool). Grown (entries ++ map (λ (kind : Kind). let x : Entry = record { single = b; kind = kind } in x) ks) (parsed_group (record { marked = false; kinds = ks }) s)) (sym several)
-    (others-step entries same reps s false ks h below)
+    (others-step entries same reps s true ks h below)
 
 -- all groups
 groups-step : (groups : List TypeGroup) (entries : List Entry) (same reps : List ℕ) (s : Parsed) → Holds entries same reps s

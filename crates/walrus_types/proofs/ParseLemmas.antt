@@ -52,22 +52,22 @@ single-group group ty single is = single-kinds group.marked group.types.items ty
 
 -- types that aren't one single type
 others-added : (marked : Bool) (kinds : List Kind) (s : Parsed) → (not marked && length kinds == 1) ≡ false
-    → added marked kinds s ≡ record { ids = s.ids ++ range_with_len (next_id s.table) (length kinds); table = with_group marked kinds s.table }
+    → added marked kinds s ≡ record { ids = s.ids ++ range_with_len (next_id s.table) (length kinds); table = with_group true kinds s.table }
 others-added true kinds s other = refl
 others-added false [] s other = refl
 others-added false (kind ∷ []) s other = absurd cc
 others-added false (kind ∷ second ∷ rest) s other = refl
 
 pub group-parsed : (marked : Bool) (kinds resolved : List Kind) (s : Parsed) (known : List ℕ) (new : Table) → (not marked && length kinds == 1) ≡ false
-    → known ≡ s.ids ++ range_with_len (next_id s.table) (length kinds) → resolved ≡ map (renamed_kind (at known)) kinds → AddsGroup marked resolved s.table new
+    → known ≡ s.ids ++ range_with_len (next_id s.table) (length kinds) → resolved ≡ map (renamed_kind (at known)) kinds → AddsGroup true resolved s.table new
     → (let p : Parsed = record { ids = known; table = new } in p) ≡ parsed_group (record { marked = marked; kinds = kinds }) s
 group-parsed marked kinds resolved s known new other knows resolves adds =
     let g : TypeGroup = record { marked = marked; kinds = kinds } in
     let here : List Kind = map (renamed_kind (at (known_ids g s))) kinds in
     let same : resolved ≡ here = resolves ∙ ap (λ (xs : List ℕ). map (renamed_kind (at xs)) kinds) knows in
     let sized : length here ≡ length kinds = length-map kinds (renamed_kind (at (known_ids g s))) in
-    ap (λ (t : Table). let p : Parsed = record { ids = known; table = t } in p) (group-added marked resolved s.table new adds ∙ ap (λ (ks : List Kind). with_group marked ks s.table) same)
-    ∙ ap (λ (xs : List ℕ). let p : Parsed = record { ids = xs; table = with_group marked here s.table } in p) (knows ∙ ap (λ (n : ℕ). s.ids ++ range_with_len (next_id s.table) n) (sym sized))
+    ap (λ (t : Table). let p : Parsed = record { ids = known; table = t } in p) (group-added true resolved s.table new adds ∙ ap (λ (ks : List Kind). with_group true ks s.table) same)
+    ∙ ap (λ (xs : List ℕ). let p : Parsed = record { ids = xs; table = with_group true here s.table } in p) (knows ∙ ap (λ (n : ℕ). s.ids ++ range_with_len (next_id s.table) n) (sym sized))
     ∙ sym (others-added marked here s (ap (λ (n : ℕ). not marked && n == 1) sized ∙ other))
 
 -- as many ids as types

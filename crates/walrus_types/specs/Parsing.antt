@@ -1,5 +1,5 @@
 -- What a table is after the groups of a type section were added to it, one after another.
-use Rattle.std.specs.Prelude.{◌≡◌, ℕ, ◌+◌, ⊤, Bool, false, List, [], ◌∷◌, ◌++◌, All, length, map, Option, Some, None}
+use Rattle.std.specs.Prelude.{◌≡◌, ℕ, ◌+◌, ⊤, Bool, true, false, List, [], ◌∷◌, ◌++◌, All, length, map, Option, Some, None}
 use Rattle.std.specs.List.{range_with_len}
 use Rattle.walrus_type_arenas.specs.walrus_type_index.walrus_items.walrus_forms.Kinds.{Kind}
 use Rattle.walrus_type_arenas.specs.walrus_type_index.walrus_items.walrus_forms.Records.{TypeGroup}
@@ -23,10 +23,10 @@ merged (Some found) kind s = record { ids = s.ids ++ found ∷ []; table = s.tab
 merged None kind s = record { ids = s.ids ++ next_id s.table ∷ []; table = with_group false (kind ∷ []) s.table }
 
 -- types of these kinds: one that stands in no written group is single, and may merge; others are
--- added as a group
+-- added as an explicit group, as no other spelling has them
 abbrev pub added : Bool → List Kind → Parsed → Parsed
 added false (kind ∷ []) s = merged (equal_type kind s.table) kind s
-added explicit kinds s = record { ids = s.ids ++ range_with_len (next_id s.table) (length kinds); table = with_group explicit kinds s.table }
+added _ kinds s = record { ids = s.ids ++ range_with_len (next_id s.table) (length kinds); table = with_group true kinds s.table }
 
 -- the group's types name those before them by their ids, and those of the group itself by the ids that
 -- they are to have

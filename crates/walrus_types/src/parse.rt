@@ -19,7 +19,7 @@ impl ModuleTypes {
     /// stands for it.
     ///
     /// A type of an unmarked record of its own merges with the latest equal type of the table, unless
-    /// it names itself. Other records are added as groups, whose mark is kept; a record of no types
+    /// it names itself. Other records are added as explicit groups, marked or not; a record of no types
     /// adds nothing. Asks that each index is below the end of its group.
     ///
     /// # Errors
@@ -80,7 +80,7 @@ impl ModuleTypes {
         let own = ids_from(self.alloc(), first, types.len())?;
         ids.extend_from_slice(own.as_slice())?;
         let members = resolve_all(self.alloc(), types, ids.as_slice())?;
-        self.append_group(group.marked, members)
+        self.append_group(true, members)
     }
 
     // Adds a type that stands in no group, and to `ids` that of the type that stands for it.

@@ -27,6 +27,7 @@ pub(crate) fn meet_ref_type(marks: &mut Marks, ty: &RefType)
 {
     match ty.heap_type {
         HeapType::Abstract(_) => {}
+        HeapType::Shared(_) => {}
         HeapType::Concrete(id) => marks.meet(Item::new(Space::Type, id)),
         HeapType::Exact(id) => marks.meet(Item::new(Space::Type, id)),
     }

@@ -2,7 +2,7 @@
 use Rattle.std.proofs.Common.{◌≡◌, ℕ, Bool, [], ◌∷◌, ◌++◌, map, refl, ap}
 use Rattle.std.specs.Option.{option_to_list}
 use Rattle.walrus_instr.specs.walrus_forms.declared.value.HeapType.{HeapType}
-use Rattle.walrus_instr.specs.walrus_forms.declared.value.HeapType.TheVariants.{Abstract, Concrete, Exact}
+use Rattle.walrus_instr.specs.walrus_forms.declared.value.HeapType.TheVariants.{Abstract, Shared, Concrete, Exact}
 use Rattle.walrus_instr.specs.walrus_forms.declared.value.RefType.{RefType}
 use Rattle.walrus_instr.specs.walrus_forms.declared.value.ValType.TheVariants as Val
 use Rattle.walrus_instr.specs.walrus_forms.Values.{ref_name}
@@ -18,6 +18,7 @@ use Rattle.walrus_walks.specs.ConstEvents.{op_names, renamed_event, ExprsTellOps
 
 heap_alone : (nullable : Bool) (heap : HeapType) → let ty : RefType = record { nullable = nullable; heap_type = heap } in ref_names ty ≡ ref_names ty ++ []
 heap_alone nullable (Abstract ty) = refl
+heap_alone nullable (Shared ty) = refl
 heap_alone nullable (Concrete id) = refl
 heap_alone nullable (Exact id) = refl
 
@@ -38,6 +39,7 @@ exprs_tell_ops (Extended ops) = refl
 heap_tells_renamed : (r : Renaming) (nullable : Bool) (heap : HeapType) → let ty : RefType = record { nullable = nullable; heap_type = heap } in
     ref_names (renamed_ref r.types ty) ≡ map (renamed_event r) (ref_names ty)
 heap_tells_renamed r nullable (Abstract ty) = refl
+heap_tells_renamed r nullable (Shared ty) = refl
 heap_tells_renamed r nullable (Concrete id) = refl
 heap_tells_renamed r nullable (Exact id) = refl
 
@@ -48,6 +50,7 @@ tells_renamed r op = refl
 heap_tells_all : (r s : Renaming) (nullable : Bool) (heap : HeapType) → let ty : RefType = record { nullable = nullable; heap_type = heap } in
     map (renamed_event r) (ref_names ty) ≡ map (renamed_event s) (ref_names ty) → renamed_ref r.types ty ≡ renamed_ref s.types ty
 heap_tells_all r s nullable (Abstract ty) e = refl
+heap_tells_all r s nullable (Shared ty) e = refl
 heap_tells_all r s nullable (Concrete id) e =
     let same : r.types id ≡ s.types id = cc in
     ap (λ (n : ℕ). let ty : RefType = record { nullable = nullable; heap_type = Concrete n } in ty) same
@@ -69,6 +72,7 @@ tells_all_names r s op e = refl
 heap_tells_name : (nullable : Bool) (heap : HeapType) → let ty : RefType = record { nullable = nullable; heap_type = heap } in
     ref_names ty ≡ map (λ id. NamesType id) (option_to_list (ref_name ty))
 heap_tells_name nullable (Abstract ty) = refl
+heap_tells_name nullable (Shared ty) = refl
 heap_tells_name nullable (Concrete id) = refl
 heap_tells_name nullable (Exact id) = refl
 

@@ -3,7 +3,7 @@ use Rattle.std.specs.Prelude.{◌≡◌, List, [], ◌∷◌, Option, Some, None
 use Rattle.std.specs.declared.alloc.Global.{Global}
 use Rattle.std.specs.declared.vec.Vec.{Vec}
 use Rattle.walrus_instr.specs.walrus_forms.declared.value.HeapType.{HeapType}
-use Rattle.walrus_instr.specs.walrus_forms.declared.value.HeapType.TheVariants.{Abstract, Concrete, Exact}
+use Rattle.walrus_instr.specs.walrus_forms.declared.value.HeapType.TheVariants.{Abstract, Shared, Concrete, Exact}
 use Rattle.walrus_instr.specs.walrus_forms.declared.value.RefType.{RefType}
 use Rattle.walrus_instr.specs.walrus_forms.declared.value.ValType.{ValType}
 use Rattle.walrus_instr.specs.walrus_forms.declared.value.ValType.TheVariants.{Ref}
@@ -47,6 +47,7 @@ MadeOfThree {V} {A} {B} {C} R S T make v a b c w whole = (d : A) × (e : B) × (
 -- the type that a reference type names
 abbrev pub HeapChanged : {V : Type 0} → (V → Event → Event → V → Type 0) → V → HeapType → V → HeapType → Type 0
 HeapChanged step v (Abstract ty) w h = (h ≡ Abstract ty) × (v ≡ w)
+HeapChanged step v (Shared ty) w h = (h ≡ Shared ty) × (v ≡ w)
 HeapChanged step v (Concrete id) w h = Made (Handed step NamesType) Concrete v id w h
 HeapChanged step v (Exact id) w h = Made (Handed step NamesType) Exact v id w h
 

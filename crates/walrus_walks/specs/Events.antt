@@ -1,7 +1,7 @@
 -- What a walk tells its visitor: one event a hook.
 use Rattle.std.specs.Prelude.{ℕ, List, [], ◌∷◌, ◌++◌, Option, Some, None}
 use Rattle.walrus_instr.specs.walrus_forms.declared.value.HeapType.{HeapType}
-use Rattle.walrus_instr.specs.walrus_forms.declared.value.HeapType.TheVariants.{Abstract, Concrete, Exact}
+use Rattle.walrus_instr.specs.walrus_forms.declared.value.HeapType.TheVariants.{Abstract, Shared, Concrete, Exact}
 use Rattle.walrus_instr.specs.walrus_forms.declared.value.RefType.{RefType}
 use Rattle.walrus_instr.specs.walrus_forms.declared.value.ValType.{ValType}
 use Rattle.walrus_instr.specs.walrus_forms.declared.value.ValType.TheVariants.{Ref}
@@ -40,6 +40,7 @@ ref_names ty = of_heap ty.heap_type
   where
     of_heap : HeapType → List Event
     of_heap (Abstract _) = []
+    of_heap (Shared _) = []
     of_heap (Concrete id) = NamesType id ∷ []
     of_heap (Exact id) = NamesType id ∷ []
 

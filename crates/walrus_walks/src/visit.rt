@@ -23,6 +23,7 @@ pub(crate) fn visit_ref_type<V: Visitor>(visitor: &mut V, ty: &RefType)
 {
     match &ty.heap_type {
         HeapType::Abstract(_) => {}
+        HeapType::Shared(_) => {}
         HeapType::Concrete(id) => visitor.visit_type_id(id),
         HeapType::Exact(id) => visitor.visit_type_id(id),
     }

@@ -24,6 +24,7 @@ fn visit_ref_type_mut<V: VisitorMut>(visitor: &mut V, ty: &mut RefType)
 {
     match &mut ty.heap_type {
         HeapType::Abstract(_) => {}
+        HeapType::Shared(_) => {}
         HeapType::Concrete(id) => visitor.visit_type_id_mut(id),
         HeapType::Exact(id) => visitor.visit_type_id_mut(id),
     }

@@ -4,7 +4,7 @@ use Rattle.wasm_features.specs.declared.WasmFeatures.{WasmFeatures}
 use Rattle.wasm_features.specs.Features.{SharedEverythingThreads, LegacyExceptions, WideArithmetic, features_of}
 use Rattle.wasm_features.specs.Sets.{default_names}
 use Rattle.walrus_forms.specs.declared.value.AbstractHeapType.TheVariants as abstracts
-use Rattle.walrus_forms.specs.declared.value.HeapType.TheVariants.{Abstract, Concrete}
+use Rattle.walrus_forms.specs.declared.value.HeapType.TheVariants.{Abstract, Shared, Concrete}
 use Rattle.walrus_forms.specs.declared.value.RefType.{RefType}
 use Rattle.walrus_forms.specs.declared.value.ValType.{ValType}
 use Rattle.walrus_forms.specs.declared.value.ValType.TheVariants.{I32, I64, Ref}
@@ -51,6 +51,10 @@ at place op = record { place = place; op = op }
 abbrev pub just : List Placed → Body
 just operators = record { locals = []; operators = operators }
 
+-- with a local of this type
+abbrev pub with_local : ValType → List Placed → Body
+with_local ty operators = record { locals = ty ∷ []; operators = operators }
+
 abbrev pub prefixed : ℕ → ℕ → List Item → Seen
 prefixed prefix n items = record { code = record { prefix = prefix; number = n }; items = items }
 
@@ -62,6 +66,10 @@ memory wide = Some (record { shared = false; wide = wide; initial = 1; maximum =
 
 abbrev pub funcref : RefType
 funcref = record { nullable = true; heap_type = Abstract abstracts.Func }
+
+-- a shared one without null
+abbrev pub shared_funcref : ValType
+shared_funcref = Ref (record { nullable = false; heap_type = Shared abstracts.Func })
 
 -- a reference to the values of a type
 abbrev pub to : ℕ → ValType

@@ -1,11 +1,12 @@
 -- Operators of each shape, in a body between its locals and its `end`: valid, cut, and with each of its faults.
-use Rattle.std.specs.Prelude.{ℕ, ◌+◌, ◌-◌, ◌≡◌, false, pos, negsuc, List, [], ◌∷◌, ◌++◌, length, map, Result, Ok, Err}
+use Rattle.std.specs.Prelude.{ℕ, ◌+◌, ◌-◌, ◌≡◌, true, false, pos, negsuc, List, [], ◌∷◌, ◌++◌, length, map, Result, Ok, Err}
 use Rattle.wasm_reader.specs.declared.error.ErrorKind.TheVariants as kinds
 use Rattle.wasm_ref_types.specs.declared.heap.AbstractHeapType.TheVariants as abstracts
 use Rattle.wasm_ref_types.specs.declared.heap.HeapType.TheVariants.{Abstract, Concrete}
 use Rattle.wasm_ref_types.specs.declared.index.UnpackedIndex.TheVariants.{Module}
 use Rattle.wasm_ref_types.specs.declared.value.ValType.TheVariants as values
 use Rattle.wasm_ref_types.specs.ReadTypes.{shared_types}
+use Rattle.wasm_ref_types.specs.Reference.{reference}
 use Rattle.wasm_operators.specs.declared.block_type.BlockType.TheVariants as blocks
 use Rattle.wasm_operators.specs.declared.clause.Clause.TheVariants as handlers
 use Rattle.wasm_operators.specs.Items.{Types, Functions, Tables, Memories, Tags, Globals, ElementSegments, DataSegments, Locals, Labels, Names, Number, S32, S64, Bits, Byte, Bytes, Heap, Block, Access, ManyLabels, ManyValues, ManyClauses}
@@ -17,7 +18,7 @@ use Rattle.wasm_formats.specs.Stops.{Trouble, Read, Index, TypeForm, Nesting, Po
 use Rattle.wasm_grammar.specs.Modules.{Body, Placed}
 use Rattle.wasm_body_grammar.specs.Rules.{Around}
 use Rattle.wasm_body_grammar.specs.Bodies.{body_at}
-use Rattle.wasm_body_grammar_tests.specs.Examples.{shapes, sharing, op, prefixed, access, at, just}
+use Rattle.wasm_body_grammar_tests.specs.Examples.{shapes, shared_funcref, sharing, op, prefixed, access, at, just, with_local}
 
 -- a body without declared locals, as it is parsed behind a size of one byte
 abbrev pub parsed : List ℕ → Result Body Stop
@@ -259,13 +260,18 @@ wrong_locals =
     ∷ ((0x80 ∷ 0x80 ∷ 0x80 ∷ 0x80 ∷ 0x10 ∷ []), Read kinds.TooLarge, 4)
     ∷ []
 
--- shared types, where they are read
-abbrev pub wrong_shared : List Refused
-wrong_shared =
-    (0x00 ∷ 0xd0 ∷ 0x65 ∷ 0x70 ∷ 0x0b ∷ [], Unsupported unsupported.SharedType, 1)
-    ∷ (0x00 ∷ 0x02 ∷ 0x65 ∷ 0x70 ∷ 0x0b ∷ 0x0b ∷ [], Unsupported unsupported.SharedType, 1)
-    ∷ (0x00 ∷ 0x1c ∷ 0x01 ∷ 0x65 ∷ 0x70 ∷ 0x0b ∷ [], Unsupported unsupported.SharedType, 1)
-    ∷ (0x01 ∷ 0x01 ∷ 0x65 ∷ 0x70 ∷ 0x0b ∷ [], Unsupported unsupported.SharedType, 2)
+-- these bodies are read so, where shared types are read
+abbrev pub AreReadShared : List (List ℕ × Body) → Type 0
+AreReadShared cases =
+    map (λ c. body_at (sharing shapes) 1 2 c.0) cases ≡ map (λ (c : List ℕ × Body). (let read : Result Body Stop = Ok c.1 in read)) cases
+
+-- a shared type of an operator, of a block, of a `select` and of a local
+abbrev pub shared_shapes : List (List ℕ × Body)
+shared_shapes =
+    ((0x00 ∷ 0xd0 ∷ 0x65 ∷ 0x70 ∷ 0x0b ∷ []), just (at 3 (op 0xd0 (Heap (Abstract true abstracts.Func) ∷ [])) ∷ at 6 (op 0x0b []) ∷ []))
+    ∷ ((0x00 ∷ 0x02 ∷ 0x65 ∷ 0x70 ∷ 0x0b ∷ 0x0b ∷ []), just (at 3 (op 0x02 (Block (blocks.Value (values.Ref (reference true (Abstract true abstracts.Func)))) ∷ [])) ∷ at 6 (op 0x0b []) ∷ at 7 (op 0x0b []) ∷ []))
+    ∷ ((0x00 ∷ 0x1c ∷ 0x01 ∷ 0x65 ∷ 0x70 ∷ 0x0b ∷ []), just (at 3 (op 0x1c (ManyValues (values.Ref (reference true (Abstract true abstracts.Func)) ∷ []) ∷ [])) ∷ at 7 (op 0x0b []) ∷ []))
+    ∷ ((0x01 ∷ 0x01 ∷ 0x64 ∷ 0x65 ∷ 0x70 ∷ 0x0b ∷ []), with_local shared_funcref (at 7 (op 0x0b []) ∷ []))
     ∷ []
 
 pub record ShapesHold : Type 0 where
@@ -275,4 +281,4 @@ pub record ShapesHold : Type 0 where
   pub refused : AreRefused wrong
   pub control_refused : AreRefused wrong_control
   pub locals_refused : AreRefused wrong_locals
-  pub shared_refused : AreRefusedIn (sharing shapes) wrong_shared
+  pub shared_read : AreReadShared shared_shapes

@@ -13,7 +13,7 @@ use Rattle.wasm_operators.specs.wasm_ref_types.Reference.{Reference, reference}
 use Rattle.walrus_forms.specs.declared.value.AbstractHeapType.{AbstractHeapType}
 use Rattle.walrus_forms.specs.declared.value.AbstractHeapType.TheVariants as into
 use Rattle.walrus_forms.specs.declared.value.HeapType.{HeapType}
-use Rattle.walrus_forms.specs.declared.value.HeapType.TheVariants.{Abstract, Concrete, Exact}
+use Rattle.walrus_forms.specs.declared.value.HeapType.TheVariants.{Abstract, Shared, Concrete, Exact}
 use Rattle.walrus_forms.specs.declared.value.RefType.{RefType}
 use Rattle.walrus_forms.specs.declared.value.ValType.{ValType}
 use Rattle.walrus_forms.specs.declared.value.ValType.TheVariants.{I32, I64, F32, F64, V128, Ref}
@@ -35,10 +35,9 @@ abstract_of from.NoExn = Some into.NoExn
 abstract_of from.Cont = None
 abstract_of from.NoCont = None
 
--- shared abstract types have none yet
 abbrev pub heap_of : ReadHeap → Option HeapType
 heap_of (FromAbstract false ty) = option_map Abstract (abstract_of ty)
-heap_of (FromAbstract true ty) = None
+heap_of (FromAbstract true ty) = option_map Shared (abstract_of ty)
 heap_of (FromConcrete (Module index)) = Some (Concrete index)
 heap_of (FromConcrete (RecGroup index)) = None
 heap_of (FromConcrete (Id id)) = None
@@ -75,6 +74,7 @@ abstract_from into.NoExn = from.NoExn
 
 abbrev pub heap_from : HeapType → ReadHeap
 heap_from (Abstract ty) = FromAbstract false (abstract_from ty)
+heap_from (Shared ty) = FromAbstract true (abstract_from ty)
 heap_from (Concrete index) = FromConcrete (Module index)
 heap_from (Exact index) = FromExact (Module index)
 
@@ -130,7 +130,9 @@ pub heap_told : (x : ReadHeap) (y : HeapType) → heap_of x ≡ Some y → x ≡
 heap_told (FromAbstract false ty) y e =
     mapped_told Abstract (λ a. FromAbstract false (abstract_from a)) heap_from (abstract_of ty) (FromAbstract false ty) y (λ a. refl)
     (λ a h. ap (λ (t : ReadAbstract). FromAbstract false t) (abstract_told ty a h)) e
-heap_told (FromAbstract true ty) y e = none_some y e
+heap_told (FromAbstract true ty) y e =
+    mapped_told Shared (λ a. FromAbstract true (abstract_from a)) heap_from (abstract_of ty) (FromAbstract true ty) y (λ a. refl)
+    (λ a h. ap (λ (t : ReadAbstract). FromAbstract true t) (abstract_told ty a h)) e
 heap_told (FromConcrete (Module index)) y e = ap heap_from (some_same (Concrete index) y e)
 heap_told (FromConcrete (RecGroup index)) y e = none_some y e
 heap_told (FromConcrete (Id id)) y e = none_some y e

@@ -9,7 +9,7 @@ use Rattle.std.proofs.lemmas.Cmp.{nat_cmp_total, tied_itself}
 use Rattle.walrus_forms.specs.declared.value.AbstractHeapType.{AbstractHeapType}
 use Rattle.walrus_forms.specs.declared.value.AbstractHeapType.TheVariants as kinds
 use Rattle.walrus_forms.specs.declared.value.HeapType.{HeapType}
-use Rattle.walrus_forms.specs.declared.value.HeapType.TheVariants.{Abstract, Concrete, Exact}
+use Rattle.walrus_forms.specs.declared.value.HeapType.TheVariants.{Abstract, Shared, Concrete, Exact}
 use Rattle.walrus_forms.specs.declared.value.RefType.{RefType}
 use Rattle.walrus_forms.specs.declared.value.ValType.{ValType}
 use Rattle.walrus_forms.specs.declared.value.ValType.TheVariants.{I32, I64, F32, F64, V128, Ref}
@@ -80,21 +80,30 @@ abstract_is kinds.I31 = refl
 abstract_is kinds.Exn = refl
 abstract_is kinds.NoExn = refl
 
+abstract_tied : (a b : AbstractHeapType) → nat_cmp (abstract_place a) (abstract_place b) ≡ Equal → a ≡ b
+abstract_tied a b e = sym (abstract_is a) ∙ ap abstract_of_place (nat_tied (abstract_place a) (abstract_place b) e) ∙ abstract_is b
+
 heap_tied : (a b : HeapType) → heap_cmp a b ≡ Equal → a ≡ b
-heap_tied (Abstract a) (Abstract b) e =
-    let place = nat_tied (abstract_place a) (abstract_place b) e in
-    ap Abstract (sym (abstract_is a) ∙ ap abstract_of_place place ∙ abstract_is b)
+heap_tied (Abstract a) (Abstract b) e = ap Abstract (abstract_tied a b e)
+heap_tied (Abstract a) (Shared b) e = absurd cc
 heap_tied (Abstract a) (Concrete b) e = absurd cc
 heap_tied (Abstract a) (Exact b) e = absurd cc
+heap_tied (Shared a) (Abstract b) e = absurd cc
+heap_tied (Shared a) (Shared b) e = ap Shared (abstract_tied a b e)
+heap_tied (Shared a) (Concrete b) e = absurd cc
+heap_tied (Shared a) (Exact b) e = absurd cc
 heap_tied (Concrete a) (Abstract b) e = absurd cc
+heap_tied (Concrete a) (Shared b) e = absurd cc
 heap_tied (Concrete a) (Concrete b) e = ap Concrete (nat_tied a b e)
 heap_tied (Concrete a) (Exact b) e = absurd cc
 heap_tied (Exact a) (Abstract b) e = absurd cc
+heap_tied (Exact a) (Shared b) e = absurd cc
 heap_tied (Exact a) (Concrete b) e = absurd cc
 heap_tied (Exact a) (Exact b) e = ap Exact (nat_tied a b e)
 
 heap_same : (a : HeapType) → heap_cmp a a ≡ Equal
 heap_same (Abstract a) = nat_same (abstract_place a)
+heap_same (Shared a) = nat_same (abstract_place a)
 heap_same (Concrete a) = nat_same a
 heap_same (Exact a) = nat_same a
 

@@ -54,6 +54,7 @@ word_inexact features bytes (words.Ref r) h = reference_inexact features bytes r
 -- a type that is told of one which isn't exact
 heap_same : (ty : HeapType) → InexactWritten (heap_from ty) → InexactHeap ty
 heap_same (heaps.Abstract kind) h = tt
+heap_same (heaps.Shared kind) h = tt
 heap_same (heaps.Concrete name) h = tt
 heap_same (heaps.Exact name) h = absurd h
 

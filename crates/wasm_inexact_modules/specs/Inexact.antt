@@ -11,7 +11,7 @@ use Rattle.wasm_operators.specs.declared.block_type.BlockType.TheVariants as blo
 use Rattle.wasm_operators.specs.Items.{Item, Heap, Block, ManyValues}
 use Rattle.wasm_operators.specs.Operators.{Seen}
 use Rattle.walrus_forms.specs.declared.value.HeapType.{HeapType}
-use Rattle.walrus_forms.specs.declared.value.HeapType.TheVariants.{Abstract, Concrete, Exact}
+use Rattle.walrus_forms.specs.declared.value.HeapType.TheVariants.{Abstract, Shared, Concrete, Exact}
 use Rattle.walrus_forms.specs.declared.value.RefType.{RefType}
 use Rattle.walrus_forms.specs.declared.value.ValType.{ValType}
 use Rattle.walrus_forms.specs.declared.value.ValType.TheVariants.{Ref}
@@ -32,6 +32,7 @@ use Rattle.wasm_module_rules.specs.Linked.{Each}
 -- the heap type isn't exact
 abbrev pub InexactHeap : HeapType → Type 0
 InexactHeap (Abstract kind) = Unit {0}
+InexactHeap (Shared kind) = Unit {0}
 InexactHeap (Concrete name) = Unit {0}
 InexactHeap (Exact name) = ⊥
 

@@ -15,7 +15,7 @@ use Rattle.walrus_types.specs.Table.{Table, next_id}
 use Rattle.wasm_normal_modules.specs.wasm_ruled_renamed.wasm_ruled_normal.wasm_ruled_modules.Rules.{AreBelow, GroupsBelow}
 use Rattle.wasm_merged_modules.proofs.SentKinds.{kinds_alike, kinds_sent}
 use Rattle.wasm_merged_modules.proofs.Orders.{at_left, at_range, behind_is, front_is, has_at, has_none, range_joined}
-use Rattle.wasm_merged_modules.proofs.Steps.{IsAdded, IsMerged, IsOrderly, added_cases, all_ids, given_kinds, group_ids, group_orderly, next_more, with_new}
+use Rattle.wasm_merged_modules.proofs.Steps.{IsAdded, IsMerged, IsOrderly, added_cases, added_marked, all_ids, given_kinds, group_ids, group_orderly, next_more, with_new}
 use Rattle.wasm_merged_modules.specs.Merged.{is_filled, is_new, kept, kinds_of, renamed_group}
 
 -- the kinds of a table's types, by id
@@ -78,7 +78,7 @@ skipped g groups s u ids p same e h = record {
 }
 
 module _ (g : TypeGroup) (groups : List TypeGroup) (s : Parsed) (ids : List ℕ) (orderly : IsOrderly s) (own : AreBelow (length s.ids + length g.kinds) g.kinds) (a : IsAdded g.marked (given_kinds g s) s)
-    (u_is : parsed_group g s ≡ with_new g.marked (given_kinds g s) s) (rest : List ℕ) (ids_are : ids ≡ (parsed_group g s).ids ++ rest) (size : length (parsed_group g s).ids ≡ length s.ids + length g.kinds)
+    (u_is : parsed_group g s ≡ with_new a.0 (given_kinds g s) s) (rest : List ℕ) (ids_are : ids ≡ (parsed_group g s).ids ++ rest) (size : length (parsed_group g s).ids ≡ length s.ids + length g.kinds)
     (later_orderly : IsOrderly (parsed_group g s)) (h : AreKept groups (parsed_group g s) ids) where
   abbrev u : Parsed
   u = parsed_group g s
@@ -103,7 +103,7 @@ module _ (g : TypeGroup) (groups : List TypeGroup) (s : Parsed) (ids : List ℕ)
   given_sent = kinds_alike (at (known_ids g s)) (at ids) (length s.ids + length g.kinds) at_known g.kinds own
 
   next_u : next_id u.table ≡ next_id s.table + length g.kinds
-  next_u = ap (λ (t : Parsed). next_id t.table) u_is ∙ next_more g.marked given s.table ∙ ap (λ (n : ℕ). next_id s.table + n) given_many
+  next_u = ap (λ (t : Parsed). next_id t.table) u_is ∙ next_more a.0 given s.table ∙ ap (λ (n : ℕ). next_id s.table + n) given_many
 
   id_small : (k : ℕ) → k < length s.ids + length g.kinds → at ids k < next_id s.table + length g.kinds
   id_small k lt =
@@ -116,7 +116,7 @@ module _ (g : TypeGroup) (groups : List TypeGroup) (s : Parsed) (ids : List ℕ)
   kept_group = renamed_group (at ids) g
 
   kept_seen : seen u.table ≡ seen s.table ++ somes sent
-  kept_seen = ap (λ (t : Parsed). seen t.table) u_is ∙ group_seen g.marked given s.table ∙ ap (λ (l : List Kind). seen s.table ++ somes l) given_sent
+  kept_seen = ap (λ (t : Parsed). seen t.table) u_is ∙ group_seen a.0 given s.table ∙ ap (λ (l : List Kind). seen s.table ++ somes l) given_sent
 
   -- read by its ids it gives the same
   module _ (t : Parsed) (table : t.table ≡ s.table) (ids_own : t.ids ≡ range_with_len 0 (next_id s.table)) where
@@ -142,11 +142,13 @@ module _ (g : TypeGroup) (groups : List TypeGroup) (s : Parsed) (ids : List ℕ)
     given_again : given_kinds kept_group t ≡ given
     given_again = twice g.kinds ∙ kinds_alike (λ k. at (known_ids kept_group t) (at ids k)) (at ids) (length s.ids + length g.kinds) own_again g.kinds own ∙ sym given_sent
 
-    group_again : parsed_group kept_group t ≡ with_new g.marked given t
-    group_again = ap (λ (l : List Kind). added g.marked l t) given_again ∙ a t table
+    group_again : parsed_group kept_group t ≡ with_new a.0 given t
+    group_again =
+        ap (λ (l : List Kind). added kept_group.marked l t) given_again ∙ ap (λ (n : ℕ). added (not (not g.marked && n == 1)) given t) (sym given_many)
+        ∙ added_marked g.marked given t ∙ a.1 t table
 
     table_again : (parsed_group kept_group t).table ≡ u.table
-    table_again = ap (λ (x : Parsed). x.table) group_again ∙ ap (with_group g.marked given) table ∙ sym (ap (λ (x : Parsed). x.table) u_is)
+    table_again = ap (λ (x : Parsed). x.table) group_again ∙ ap (with_group a.0 given) table ∙ sym (ap (λ (x : Parsed). x.table) u_is)
 
     ids_again : (parsed_group kept_group t).ids ≡ range_with_len 0 (next_id u.table)
     ids_again =
@@ -201,7 +203,7 @@ of_step g groups s ids orderly own front h (inr a) = go g.kinds refl
     go : (kinds : List Kind) → g.kinds ≡ kinds → AreKept (g ∷ groups) s ids
     go [] e =
         let none : given_kinds g s ≡ [] = ap (map (renamed_kind (at (known_ids g s)))) e in
-        let u_is : parsed_group g s ≡ with_new g.marked [] s = a s refl ∙ ap (λ (l : List Kind). with_new g.marked l s) none in
+        let u_is : parsed_group g s ≡ with_new a.0 [] s = a.1 s refl ∙ ap (λ (l : List Kind). with_new a.0 l s) none in
         skipped g groups s (parsed_group g s) ids refl
         (ap (λ (t : Parsed). t.table) u_is ∙ ap (λ (types : List (Option Item)). (let t : Table = record { types = types; groups = s.table.groups ++ [] } in t)) (append-nil s.table.types)
         ∙ ap (λ (gs : List (Option Group)). (let t : Table = record { types = s.table.types; groups = gs } in t)) (append-nil s.table.groups))
@@ -209,7 +211,7 @@ of_step g groups s ids orderly own front h (inr a) = go g.kinds refl
         ∙ ap (λ (n : ℕ). kept ids n groups) (sym size)) h
     go (k ∷ kinds) e =
         let many : length (given_kinds g s) ≡ suc (length kinds) = length-map g.kinds (renamed_kind (at (known_ids g s))) ∙ ap length e in
-        let u_is : parsed_group g s ≡ with_new g.marked (given_kinds g s) s = a s refl in
+        let u_is : parsed_group g s ≡ with_new a.0 (given_kinds g s) s = a.1 s refl in
         let first : (parsed_group g s).ids ≡ s.ids ++ next_id s.table ∷ range_with_len (next_id s.table + 1) (length kinds) =
         ap (λ (t : Parsed). t.ids) u_is ∙ ap (λ (n : ℕ). s.ids ++ range_with_len (next_id s.table) n) many in
         let split : ids ≡ s.ids ++ next_id s.table ∷ (range_with_len (next_id s.table + 1) (length kinds) ++ front.0) =

@@ -10,7 +10,7 @@ use Rattle.walrus_forms.specs.Renaming.{FieldBelow, FormBelow, HeapBelow, ValueB
 use Rattle.walrus_forms.specs.Values.{unpacked}
 use Rattle.walrus_forms.specs.declared.value.FieldType.{FieldType}
 use Rattle.walrus_forms.specs.declared.value.HeapType.{HeapType}
-use Rattle.walrus_forms.specs.declared.value.HeapType.TheVariants.{Abstract, Concrete, Exact}
+use Rattle.walrus_forms.specs.declared.value.HeapType.TheVariants.{Abstract, Shared, Concrete, Exact}
 use Rattle.walrus_forms.specs.declared.value.StorageType.{StorageType}
 use Rattle.walrus_forms.specs.declared.value.StorageType.TheVariants.{Val, I8, I16}
 use Rattle.walrus_forms.specs.declared.value.ValType.{ValType}
@@ -20,6 +20,7 @@ use Rattle.wasm_normal_modules.specs.wasm_ruled_renamed.wasm_ruled_normal.wasm_r
 module _ (r : ℕ → ℕ) (m n : ℕ) (sent : (k : ℕ) → k < m → r k < n) where
   heap_sent : (ty : HeapType) → HeapBelow m ty → HeapBelow n (renamed_heap r ty)
   heap_sent (Abstract ty) h = tt
+  heap_sent (Shared ty) h = tt
   heap_sent (Concrete k) h = sent k h
   heap_sent (Exact k) h = sent k h
 

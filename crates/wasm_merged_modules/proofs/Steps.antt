@@ -1,7 +1,8 @@
 -- Lemmas: what a group adds to a table, and which ids its types get.
-use Rattle.std.specs.Prelude.{ℕ, ◌≡◌, ◌<◌, ◌≤◌, ◌+◌, ◌⊎◌, Bool, true, false, List, [], ◌∷◌, ◌++◌, length, map, Option, Some, None, refl, if◌then◌else◌}
+use Rattle.std.specs.Prelude.{ℕ, ◌≡◌, ◌<◌, ◌≤◌, ◌+◌, ◌⊎◌, ◌==◌, ◌&&◌, Bool, true, false, not, List, [], ◌∷◌, ◌++◌, length, map, Option, Some, None, refl, if◌then◌else◌}
 use Rattle.std.specs.List.{AllByRecursion, range_with_len}
 use Rattle.std.proofs.Common.{ap, sym, ◌∙◌, subst, arith, inl, inr}
+use Rattle.std.proofs.lemmas.Bool.{ne_eqb}
 use Rattle.std.proofs.lemmas.List.{append_assoc, append-nil, length-append, length-map}
 use Rattle.std.proofs.lemmas.List.FromFn.{length-range_with_len}
 use Rattle.walrus_forms.specs.Kinds.{Kind}
@@ -47,7 +48,7 @@ equal_below kind t id e = go (names_itself (next_id t) kind) e
 
 -- with them, under the next ids
 abbrev pub with_new : Bool → List Kind → Parsed → Parsed
-with_new marked kinds s = record { ids = s.ids ++ range_with_len (next_id s.table) (length kinds); table = with_group marked kinds s.table }
+with_new explicit kinds s = record { ids = s.ids ++ range_with_len (next_id s.table) (length kinds); table = with_group explicit kinds s.table }
 
 -- a single one for which an earlier one stands
 abbrev pub IsMerged : Bool → List Kind → Parsed → Type 0
@@ -55,17 +56,24 @@ IsMerged marked kinds s = (id : ℕ) × (id < next_id s.table) × (added marked 
 
 -- they are added, wherever the table is this one
 abbrev pub IsAdded : Bool → List Kind → Parsed → Type 0
-IsAdded marked kinds s = (t : Parsed) → t.table ≡ s.table → added marked kinds t ≡ with_new marked kinds t
+IsAdded marked kinds s = (explicit : Bool) × ((t : Parsed) → t.table ≡ s.table → added marked kinds t ≡ with_new explicit kinds t)
 
 single_cases : (kind : Kind) (s : Parsed) (found : Option ℕ) → equal_type kind s.table ≡ found → IsMerged false (kind ∷ []) s ⊎ IsAdded false (kind ∷ []) s
-single_cases kind s None e = inr (λ t same. ap (λ (o : Option ℕ). merged o kind t) (ap (equal_type kind) same ∙ e))
+single_cases kind s None e = inr (false, λ t same. ap (λ (o : Option ℕ). merged o kind t) (ap (equal_type kind) same ∙ e))
 single_cases kind s (Some id) e = inl (id, equal_below kind s.table id e, ap (λ (o : Option ℕ). merged o kind s) e, refl)
 
 pub added_cases : (marked : Bool) (kinds : List Kind) (s : Parsed) → IsMerged marked kinds s ⊎ IsAdded marked kinds s
-added_cases true kinds s = inr (λ t same. refl)
-added_cases false [] s = inr (λ t same. refl)
+added_cases true kinds s = inr (true, λ t same. refl)
+added_cases false [] s = inr (true, λ t same. refl)
 added_cases false (kind ∷ []) s = single_cases kind s (equal_type kind s.table) refl
-added_cases false (a ∷ (b ∷ kinds)) s = inr (λ t same. refl)
+added_cases false (a ∷ (b ∷ kinds)) s = inr (true, λ t same. refl)
+
+-- marked but where it is of one type without a mark, a group adds the same
+pub added_marked : (marked : Bool) (kinds : List Kind) (t : Parsed) → added (not (not marked && length kinds == 1)) kinds t ≡ added marked kinds t
+added_marked true kinds t = refl
+added_marked false [] t = refl
+added_marked false (kind ∷ []) t = refl
+added_marked false (a ∷ (b ∷ kinds)) t = ap (λ (one : Bool). added (not one) (a ∷ (b ∷ kinds)) t) (ne_eqb (length (a ∷ (b ∷ kinds))) 1 (λ e. omega (arith, e)))
 
 items_length : (id : ℕ) (kinds : List Kind) → length (new_items id kinds) ≡ length kinds
 items_length id [] = refl
@@ -80,7 +88,7 @@ IsOrderly s = AreOrderly s.ids (next_id s.table)
 added_orderly : (marked : Bool) (kinds : List Kind) (s : Parsed) → IsOrderly s → IsMerged marked kinds s ⊎ IsAdded marked kinds s → IsOrderly (added marked kinds s)
 added_orderly marked kinds s h (inl m) = subst IsOrderly (sym m.2) (one_more s.ids (next_id s.table) h m.0 m.1)
 added_orderly marked kinds s h (inr a) =
-    subst IsOrderly (sym (a s refl)) (subst (AreOrderly (s.ids ++ range_with_len (next_id s.table) (length kinds))) (sym (next_more marked kinds s.table)) (many_more s.ids (next_id s.table) h (length kinds)))
+    subst IsOrderly (sym (a.1 s refl)) (subst (AreOrderly (s.ids ++ range_with_len (next_id s.table) (length kinds))) (sym (next_more a.0 kinds s.table)) (many_more s.ids (next_id s.table) h (length kinds)))
 
 abbrev pub given_kinds : TypeGroup → Parsed → List Kind
 given_kinds g s = map (renamed_kind (at (known_ids g s))) g.kinds
@@ -96,7 +104,7 @@ all_orderly (g ∷ groups) s h = all_orderly groups (parsed_group g s) (group_or
 
 ids_added : (marked : Bool) (kinds : List Kind) (s : Parsed) → IsMerged marked kinds s ⊎ IsAdded marked kinds s → (own : List ℕ) × ((added marked kinds s).ids ≡ s.ids ++ own) × (length own ≡ length kinds)
 ids_added marked kinds s (inl m) = (m.0 ∷ [], ap (λ (t : Parsed). t.ids) m.2, sym m.3)
-ids_added marked kinds s (inr a) = (range_with_len (next_id s.table) (length kinds), ap (λ (t : Parsed). t.ids) (a s refl), length-range_with_len (next_id s.table) (length kinds))
+ids_added marked kinds s (inr a) = (range_with_len (next_id s.table) (length kinds), ap (λ (t : Parsed). t.ids) (a.1 s refl), length-range_with_len (next_id s.table) (length kinds))
 
 pub group_ids : (g : TypeGroup) (s : Parsed) → (own : List ℕ) × ((parsed_group g s).ids ≡ s.ids ++ own) × (length own ≡ length g.kinds)
 group_ids g s =

@@ -7,6 +7,7 @@ use Rattle.walrus_forms.specs.Records.{TypeGroup}
 use Rattle.walrus_forms.specs.Renaming.{KindBelow, at, renamed_kind, renamed_value}
 use Rattle.walrus_forms.specs.Same.{same_kind}
 use Rattle.walrus_forms.specs.declared.value.ValType.{ValType}
+use Rattle.walrus_types.specs.Mergers.{is_single}
 use Rattle.walrus_types.specs.Parsing.{Parsed, parsed, unparsed}
 use Rattle.walrus_types.specs.Table.{Table, found_type, type_at}
 use Rattle.walrus_types.specs.walrus_items.Items.{Item}
@@ -39,8 +40,9 @@ abbrev pub is_filled : List Kind → Bool
 is_filled [] = false
 is_filled (kind ∷ kinds) = true
 
+-- marked but where it is of one type without a mark
 abbrev pub renamed_group : (ℕ → ℕ) → TypeGroup → TypeGroup
-renamed_group r g = record { marked = g.marked; kinds = map (renamed_kind r) g.kinds }
+renamed_group r g = record { marked = not (is_single g); kinds = map (renamed_kind r) g.kinds }
 
 -- where types have these ids, and so many stand before: the groups that have types, but for a single one whose type has the id of an earlier one
 abbrev pub kept : List ℕ → ℕ → List TypeGroup → List TypeGroup

@@ -9,7 +9,7 @@ use Rattle.walrus_forms.specs.declared.value.AbstractHeapType.{AbstractHeapType}
 use Rattle.walrus_forms.specs.declared.value.AbstractHeapType.TheVariants as heaps
 use Rattle.walrus_forms.specs.declared.value.FieldType.{FieldType}
 use Rattle.walrus_forms.specs.declared.value.HeapType.{HeapType}
-use Rattle.walrus_forms.specs.declared.value.HeapType.TheVariants.{Abstract, Concrete, Exact}
+use Rattle.walrus_forms.specs.declared.value.HeapType.TheVariants.{Abstract, Shared, Concrete, Exact}
 use Rattle.walrus_forms.specs.declared.value.RefType.{RefType}
 use Rattle.walrus_forms.specs.declared.value.StorageType.{StorageType}
 use Rattle.walrus_forms.specs.declared.value.StorageType.TheVariants.{Val, I8, I16}
@@ -47,6 +47,7 @@ abstract_back heaps.NoExn = refl
 
 heap_back : (x : HeapType) → heap_of (heap_from x) ≡ Some x
 heap_back (Abstract ty) = ap (option_map Abstract) (abstract_back ty)
+heap_back (Shared ty) = ap (option_map Shared) (abstract_back ty)
 heap_back (Concrete n) = refl
 heap_back (Exact n) = refl
 

@@ -6,10 +6,11 @@ use Rattle.wasm_ref_types.specs.declared.index.UnpackedIndex.TheVariants.{Module
 use Rattle.wasm_ref_types.specs.declared.value.ValType.TheVariants as values
 use Rattle.walrus_forms.specs.declared.value.AbstractHeapType.TheVariants as heaps
 use Rattle.walrus_forms.specs.declared.value.FieldType.{FieldType}
-use Rattle.walrus_forms.specs.declared.value.HeapType.TheVariants.{Concrete}
+use Rattle.walrus_forms.specs.declared.value.HeapType.TheVariants.{Shared, Concrete}
 use Rattle.walrus_forms.specs.declared.value.RefType.{RefType}
 use Rattle.walrus_forms.specs.declared.value.StorageType.{StorageType}
 use Rattle.walrus_forms.specs.declared.value.StorageType.TheVariants.{Val, I8}
+use Rattle.walrus_forms.specs.declared.value.ValType.{ValType}
 use Rattle.walrus_forms.specs.declared.value.ValType.TheVariants.{I32, I64, Ref}
 use Rattle.walrus_forms.specs.Values.{nullable}
 use Rattle.walrus_forms.specs.Forms.{StructForm}
@@ -21,7 +22,7 @@ use Rattle.wasm_operators.specs.Operators.{Seen}
 use Rattle.wasm_formats.specs.declared.fault.Space.{Space}
 use Rattle.wasm_formats.specs.declared.fault.Space.TheVariants as spaces
 use Rattle.wasm_grammar.specs.Modules.{Imported, Own, Placed, Body, Function, Table, Memory, Mode, Passive, Declared, Active, Elements, Functions as Indices, Expressions, Element, Segment, Import, Export, Custom, Module, empty}
-use Rattle.wasm_module_rows.specs.Files.{magic, plain_type, one_function, exported, base, shortest, usual, AreModules}
+use Rattle.wasm_module_rows.specs.Files.{magic, plain_type, one_function, exported, base, shortest, usual, with_shared, AreModules}
 
 -- ---- words for modules
 
@@ -86,6 +87,31 @@ modules =
     ∷ ((base ++ 0x0a ∷ 0x0b ∷ 0x01 ∷ 0x09 ∷ 0x00 ∷ 0x41 ∷ 0x07 ∷ 0x1a ∷ 0x01 ∷ 0x41 ∷ 0x07 ∷ 0x1a ∷ 0x0b ∷ []), simple 0 (just (at 3 (op 0x41 (S32 (pos 7) ∷ [])) ∷ at 5 (op 0x1a []) ∷ at 6 (op 0x01 []) ∷ at 7 (op 0x41 (S32 (pos 7) ∷ [])) ∷ at 9 (op 0x1a []) ∷ at 10 (op 0x0b []) ∷ []) ∷ []))
     ∷ ((shortest ++ 0x00 ∷ 0x05 ∷ 0x04 ∷ 0x6e ∷ 0x61 ∷ 0x6d ∷ 0x65 ∷ []), record (simple 0 (just (at 3 (op 0x0b []) ∷ []) ∷ [])) { customs = custom (0x6e ∷ 0x61 ∷ 0x6d ∷ 0x65 ∷ []) [] ∷ [] })
     ∷ ((shortest ++ 0x00 ∷ 0x08 ∷ 0x04 ∷ 0x6e ∷ 0x61 ∷ 0x6d ∷ 0x65 ∷ 0x01 ∷ 0x7f ∷ 0x00 ∷ []), record (simple 0 (just (at 3 (op 0x0b []) ∷ []) ∷ [])) { customs = custom (0x6e ∷ 0x61 ∷ 0x6d ∷ 0x65 ∷ []) (0x01 ∷ 0x7f ∷ 0x00 ∷ []) ∷ [] })
+    ∷ []
+
+-- ---- where shared types are read
+
+-- a nullable reference to shared functions
+abbrev pub shared_funcref : ValType
+shared_funcref = Ref (record { nullable = true; heap_type = Shared heaps.Func })
+
+-- a global of one, whose type is written in its long form; and functions that have one, and one that isn't shared, for a parameter
+abbrev pub shared_modules : List (List ℕ × Module)
+shared_modules = (
+  (magic ++ 0x06 ∷ 0x09 ∷ 0x01 ∷ 0x63 ∷ 0x65 ∷ 0x70 ∷ 0x00 ∷ 0xd0 ∷ 0x65 ∷ 0x70 ∷ 0x0b ∷ 0x07 ∷ 0x05 ∷ 0x01 ∷ 0x01 ∷ 0x67 ∷ 0x03 ∷ 0x00 ∷ []),
+  record empty {
+    globals = Some (record { ty = shared_funcref; mutable = false; origin = Own (op 0xd0 (Heap (ReadAbstract true read_heaps.Func) ∷ []) ∷ []) }) ∷ [];
+    exports = export (0x67 ∷ []) spaces.Global 0 ∷ [];
+  },
+)
+    ∷ (
+      (magic ++ 0x01 ∷ 0x0a ∷ 0x02 ∷ 0x60 ∷ 0x01 ∷ 0x65 ∷ 0x70 ∷ 0x00 ∷ 0x60 ∷ 0x01 ∷ 0x70 ∷ 0x00 ∷ 0x03 ∷ 0x03 ∷ 0x02 ∷ 0x00 ∷ 0x01 ∷ 0x07 ∷ 0x09 ∷ 0x02 ∷ 0x01 ∷ 0x61 ∷ 0x00 ∷ 0x00 ∷ 0x01 ∷ 0x62 ∷ 0x00 ∷ 0x01 ∷ 0x0a ∷ 0x07 ∷ 0x02 ∷ 0x02 ∷ 0x00 ∷ 0x0b ∷ 0x02 ∷ 0x00 ∷ 0x0b ∷ []),
+      record empty {
+        groups = alone (function_kind (shared_funcref ∷ []) []) ∷ alone (function_kind (Ref funcref ∷ []) []) ∷ [];
+        functions = own 0 (just (at 3 (op 0x0b []) ∷ [])) ∷ own 1 (just (at 6 (op 0x0b []) ∷ [])) ∷ [];
+        exports = export (0x61 ∷ []) spaces.Function 0 ∷ export (0x62 ∷ []) spaces.Function 1 ∷ [];
+      },
+    )
     ∷ []
 
 -- ---- one item of each kind, imported and not
@@ -190,3 +216,4 @@ pub record FilesRead : Type 0 where
   pub of_each : AreModules usual modules
   pub of_all : AreModules usual ((everything, all_items) ∷ [])
   pub of_forms : AreModules usual ((forms, all_forms) ∷ [])
+  pub of_shared : AreModules with_shared shared_modules

@@ -22,7 +22,7 @@ use Rattle.walrus_forms.specs.declared.value.FieldType.{FieldType}
 use Rattle.walrus_forms.specs.declared.value.StorageType.{StorageType}
 use Rattle.walrus_forms.specs.declared.value.StorageType.TheVariants.{Val}
 use Rattle.walrus_forms.specs.declared.value.HeapType.{HeapType}
-use Rattle.walrus_forms.specs.declared.value.HeapType.TheVariants.{Abstract, Concrete, Exact}
+use Rattle.walrus_forms.specs.declared.value.HeapType.TheVariants.{Abstract, Shared, Concrete, Exact}
 use Rattle.walrus_forms.specs.declared.value.ValType.{ValType}
 use Rattle.walrus_forms.specs.declared.value.ValType.TheVariants as values
 use Rattle.walrus_forms.specs.Forms.{Form, FunctionForm, StructForm, ArrayForm}
@@ -92,6 +92,7 @@ told_names end tell index Below one (x ∷ xs) ys e h =
 
 heap_names : (end : ℕ) (h : HeapType) → IfSome (heap_name h) (λ n. n < end) → IfSome (heap_index (heap_from h)) (λ n. n < end)
 heap_names end (Abstract ty) h = tt
+heap_names end (Shared ty) h = tt
 heap_names end (Concrete n) h = h
 heap_names end (Exact n) h = h
 

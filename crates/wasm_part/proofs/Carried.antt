@@ -261,9 +261,13 @@ module _ (p : Plan) (k l : Known) (knows : KnowsPart p k l) where
   abstract_known None e = absurd cc
   abstract_known (Some ty) e = refl
 
+  shared_known : (o : Option AbstractHeapType) → heap_test k (option_map words.Shared o) ≡ None → heap_test l (option_map words.Shared o) ≡ None
+  shared_known None e = absurd cc
+  shared_known (Some ty) e = refl
+
   heap_known : (ty : HeapType) → AllByRecursion (NameIn p) (item_names (Heap ty)) → heap_test k (heap_of ty) ≡ None → heap_test l (heap_of (renamed_heap p.renames ty)) ≡ None
   heap_known (Abstract false ty) h e = abstract_known (abstract_of ty) e
-  heap_known (Abstract true ty) h e = absurd cc
+  heap_known (Abstract true ty) h e = shared_known (abstract_of ty) e
   heap_known (Concrete (Module n)) h e = holds_must (nat_lt (p.renames Types n) l.types) (Index spaces.«Type») (type_known n h.0)
   heap_known (Concrete (RecGroup n)) h e = absurd cc
   heap_known (Concrete (Id id)) h e = absurd cc

@@ -12,7 +12,7 @@ use Rattle.walrus_forms.specs.Kinds.{Kind}
 use Rattle.walrus_forms.specs.Renaming.{HeapBelow, RefBelow, ValueBelow, renamed_form, renamed_heap, renamed_kind, renamed_value}
 use Rattle.walrus_forms.specs.Values.{heap_name, value_name}
 use Rattle.walrus_forms.specs.declared.value.HeapType.{HeapType}
-use Rattle.walrus_forms.specs.declared.value.HeapType.TheVariants.{Abstract, Concrete, Exact}
+use Rattle.walrus_forms.specs.declared.value.HeapType.TheVariants.{Abstract, Shared, Concrete, Exact}
 use Rattle.walrus_forms.specs.declared.value.ValType.{ValType}
 use Rattle.walrus_forms.specs.declared.value.ValType.TheVariants.{I32, I64, F32, F64, V128, Ref}
 use Rattle.wasm_body_grammar.specs.Bodies.{most_locals}
@@ -313,6 +313,7 @@ module _ (features : WasmFeatures) (before counted : Bool) (p : Plan) (m : Modul
 
     heap_below : (ty : HeapType) → TypeIn p (heap_name ty) → HeapBelow (length (types_of n)) (renamed_heap (r Types) ty)
     heap_below (Abstract ty) h = tt
+    heap_below (Shared ty) h = tt
     heap_below (Concrete k) h = type_there k h
     heap_below (Exact k) h = type_there k h
 

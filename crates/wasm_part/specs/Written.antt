@@ -4,7 +4,7 @@ use Rattle.std.specs.Prelude.{ℕ, ◌≡◌, ◌<◌, Bool, true, false, List, 
 use Rattle.std.specs.List.{range_with_len}
 use Rattle.walrus_forms.specs.Kinds.{Kind}
 use Rattle.walrus_forms.specs.Records.{TypeGroup}
-use Rattle.walrus_types.specs.Emission.{IsEmission, index_at, is_written, written_groups, written_in, written_kind, written_types}
+use Rattle.walrus_types.specs.Emission.{IsEmission, index_at, is_written, written_groups, written_kind, written_types}
 use Rattle.walrus_types.specs.Items.{Group}
 use Rattle.walrus_types.specs.Table.{Table}
 use Rattle.wasm_features.specs.declared.WasmFeatures.{WasmFeatures}
@@ -30,7 +30,7 @@ with_types gs = filter (λ (g : Bool × List ℕ). has_types g.1) gs
 -- the table has the module's groups, in their order, of those types that are written
 abbrev pub GroupsStand : Table → Numbered → Type 0
 GroupsStand t v =
-    map (λ (g : Group). (g.explicit, written_in t g)) (written_groups t)
+    map (λ (g : Group). (g.explicit, g.types)) (written_groups t)
     ≡ with_types (map (λ (g : TypeGroup × List ℕ). (g.0.marked, filter (is_written t) g.1)) (numbered v.filled.groups v.types))
 
 pub record WritesKept (v : Numbered) (keep : Bool) (pushed : List Item) (t : Table) (p : Plan) : Type 0 where

@@ -1,5 +1,5 @@
 -- A run by what became of its input.
-use Rattle.std.proofs.Common.{ℕ, ◌≡◌, ◌∙◌, true, false, List, Option, Result, Ok, Err, refl, ap, inl, inr}
+use Rattle.std.proofs.Common.{ℕ, ◌≡◌, ◌∙◌, true, false, List, Option, Some, None, Result, Ok, Err, refl, ap, inl, inr}
 use Rattle.rewriter_devices.specs.Input.{IsInput}
 use Rattle.walrus_errors.specs.declared.error.ModuleError.{ModuleError}
 use Rattle.walrus_errors.specs.declared.error.ModuleError.TheVariants as errors
@@ -19,7 +19,8 @@ written_runs o source sink places input bytes pairs (Err (faults.PlacesFault n))
 written_runs o source sink places input bytes pairs (Err fault) i r w = absurd w
 
 of_module : (error : ModuleError) → tells_of_device (fault_of error) ≡ false
-of_module errors.Memory = refl
+of_module (errors.Unsupported form None) = refl
+of_module (errors.Unsupported form (Some offset)) = refl
 of_module error = refl
 
 -- what is refused tells of no device

@@ -20,6 +20,7 @@ default_options = record {
   names = true;
   producers = true;
   places = false;
+  shared_types = false;
   keep_segments = false;
 }
 
@@ -31,6 +32,7 @@ config_of o = record default_config {
   generate_name_section = o.names;
   generate_producers_section = o.producers;
   preserve_code_transform = o.places;
+  shared_types = o.shared_types;
   keep_segments = o.keep_segments;
 }
 

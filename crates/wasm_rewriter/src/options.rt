@@ -16,13 +16,16 @@ pub struct Options {
     pub producers: bool,
     /// Give the list that pairs written operators with those that they stand for.
     pub places: bool,
+    /// Accept shared abstract heap types.
+    pub shared_types: bool,
     /// Keep all active element segments, each with its table.
     pub keep_segments: bool,
 }
 
 impl Options {
-    /// The options of a call that asks for nothing: wide arithmetic and the legacy exceptions are accepted, names and producers are
-    /// written, no list of places is given, and of active element segments those alone are kept that fill an imported or kept table.
+    /// The options of a call that asks for nothing: wide arithmetic and the legacy exceptions are accepted, shared types aren't, names
+    /// and producers are written, no list of places is given, and of active element segments those alone are kept that fill an imported
+    /// or kept table.
     pub fn new() -> Options
         ensures { result ≡ default_options }
     {
@@ -32,6 +35,7 @@ impl Options {
             names: true,
             producers: true,
             places: false,
+            shared_types: false,
             keep_segments: false,
         }
     }

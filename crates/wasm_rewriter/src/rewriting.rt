@@ -53,6 +53,7 @@ fn config_of(options: &Options) -> ModuleConfig
     config.generate_name_section = options.names;
     config.generate_producers_section = options.producers;
     config.preserve_code_transform = options.places;
+    config.shared_types = options.shared_types;
     config.keep_segments = options.keep_segments;
     config
 }

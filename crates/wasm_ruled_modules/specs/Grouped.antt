@@ -20,7 +20,7 @@ use Rattle.walrus_forms.specs.declared.value.FieldType.{FieldType}
 use Rattle.walrus_forms.specs.declared.value.StorageType.{StorageType}
 use Rattle.walrus_forms.specs.declared.value.StorageType.TheVariants.{Val, I8, I16}
 use Rattle.walrus_forms.specs.declared.value.HeapType.{HeapType}
-use Rattle.walrus_forms.specs.declared.value.HeapType.TheVariants.{Abstract, Concrete, Exact}
+use Rattle.walrus_forms.specs.declared.value.HeapType.TheVariants.{Abstract, Shared, Concrete, Exact}
 use Rattle.walrus_forms.specs.declared.value.ValType.{ValType}
 use Rattle.walrus_forms.specs.declared.value.ValType.TheVariants as values
 use Rattle.walrus_forms.specs.Forms.{Form, FunctionForm, StructForm, ArrayForm}
@@ -84,6 +84,7 @@ told_below end tell index Below one (x ∷ xs) ys e h =
 
 heap_below : (end : ℕ) (h : HeapType) → IfSome (heap_index (heap_from h)) (λ n. n < end) → IfSome (heap_name h) (λ n. n < end)
 heap_below end (Abstract ty) h = tt
+heap_below end (Shared ty) h = tt
 heap_below end (Concrete n) h = h
 heap_below end (Exact n) h = h
 

@@ -16,7 +16,7 @@ use Rattle.walrus_forms.specs.Values.{heap_name, value_name}
 use Rattle.walrus_forms.specs.declared.value.AbstractHeapType.{AbstractHeapType}
 use Rattle.walrus_forms.specs.declared.value.AbstractHeapType.TheVariants as abstracts
 use Rattle.walrus_forms.specs.declared.value.HeapType.{HeapType}
-use Rattle.walrus_forms.specs.declared.value.HeapType.TheVariants.{Abstract, Concrete, Exact}
+use Rattle.walrus_forms.specs.declared.value.HeapType.TheVariants.{Abstract, Shared, Concrete, Exact}
 use Rattle.walrus_forms.specs.declared.value.ValType.{ValType}
 use Rattle.walrus_forms.specs.declared.value.ValType.TheVariants.{I32, I64, F32, F64, V128, Ref}
 use Rattle.wasm_ruled_modules.specs.wasm_module_rules.wasm_modules.wasm_body_grammar.Rules.{Around, block_test, form_test, found_in, has_words, kind_test, latest_from, leads, pick, room, serves}
@@ -209,6 +209,7 @@ module _ (is : SameKindIsEquality) (a : Around) where
 
   heap_words : (ty : HeapType) → is_some (heap_of (heap_from ty)) ≡ true
   heap_words (Abstract ty) = some_mapped Abstract (abstract_of (abstract_from ty)) ∙ abstract_words ty
+  heap_words (Shared ty) = some_mapped Shared (abstract_of (abstract_from ty)) ∙ abstract_words ty
   heap_words (Concrete index) = refl
   heap_words (Exact index) = refl
 
@@ -262,6 +263,7 @@ module _ (is : SameKindIsEquality) (a : Around) (below : GroupsBelow 0 a.filled.
   heap_fits : (nullable : Bool) (heap : HeapType) (rest : List ℕ) → NamesBelow (length (types_of a.filled)) (cons_option (heap_name heap) [] ++ rest)
       → Fits (value_names (value_from (Ref (record { nullable = nullable; heap_type = heap }))))
   heap_fits nullable (Abstract ty) rest h = tt
+  heap_fits nullable (Shared ty) rest h = tt
   heap_fits nullable (Concrete n) rest h = (lt-ltb n (length (types_of a.filled)) (h n (inl refl)), tt)
   heap_fits nullable (Exact n) rest h = (lt-ltb n (length (types_of a.filled)) (h n (inl refl)), tt)
 

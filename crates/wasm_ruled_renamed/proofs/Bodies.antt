@@ -299,6 +299,7 @@ value_sent_below r a b reaches (Ref ty) h = go ty.nullable ty.heap_type h
     go : (nullable : Bool) (heap : HeapType) → ValueBelow (length (types_of a.filled)) (Ref (record { nullable = nullable; heap_type = heap }))
         → ValueBelow (length (types_of b.filled)) (renamed_value (r Types) (Ref (record { nullable = nullable; heap_type = heap })))
     go nullable (words.Abstract abstract) h = tt
+    go nullable (words.Shared abstract) h = tt
     go nullable (words.Concrete n) h = reaches Types n h
     go nullable (words.Exact n) h = reaches Types n h
 
@@ -330,6 +331,7 @@ local_stays (Ref ty) = go ty.nullable ty.heap_type
   where
     go : (nullable : Bool) (heap : HeapType) → renamed_value (same Types) (Ref (record { nullable = nullable; heap_type = heap })) ≡ Ref (record { nullable = nullable; heap_type = heap })
     go nullable (words.Abstract abstract) = refl
+    go nullable (words.Shared abstract) = refl
     go nullable (words.Concrete n) = refl
     go nullable (words.Exact n) = refl
 

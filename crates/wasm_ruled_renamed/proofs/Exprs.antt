@@ -44,9 +44,13 @@ module _ (r : Renaming) (k l : Known) (knows : Knows r k l) where
   abstract_known None e = absurd cc
   abstract_known (Some ty) e = refl
 
+  shared_known : (o : Option AbstractHeapType) → heap_test k (option_map words.Shared o) ≡ None → heap_test l (option_map words.Shared o) ≡ None
+  shared_known None e = absurd cc
+  shared_known (Some ty) e = refl
+
   heap_known : (ty : HeapType) → heap_test k (heap_of ty) ≡ None → heap_test l (heap_of (renamed_heap r ty)) ≡ None
   heap_known (Abstract false ty) e = abstract_known (abstract_of ty) e
-  heap_known (Abstract true ty) e = absurd cc
+  heap_known (Abstract true ty) e = shared_known (abstract_of ty) e
   heap_known (Concrete (Module n)) e = holds_must (nat_lt (r Types n) l.types) (Index spaces.«Type») (type_known n (must_holds (nat_lt n k.types) (Index spaces.«Type») e))
   heap_known (Concrete (RecGroup n)) e = absurd cc
   heap_known (Concrete (Id id)) e = absurd cc

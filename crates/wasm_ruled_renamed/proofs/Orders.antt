@@ -10,7 +10,7 @@ use Rattle.walrus_forms.specs.Kinds.{Kind, function_kind, kind_names}
 use Rattle.walrus_forms.specs.Renaming.{renamed_form, renamed_kind, renamed_value}
 use Rattle.walrus_forms.specs.Same.{SameKindIsEquality}
 use Rattle.walrus_forms.specs.declared.value.HeapType.{HeapType}
-use Rattle.walrus_forms.specs.declared.value.HeapType.TheVariants.{Abstract, Concrete, Exact}
+use Rattle.walrus_forms.specs.declared.value.HeapType.TheVariants.{Abstract, Shared, Concrete, Exact}
 use Rattle.walrus_forms.specs.declared.value.ValType.{ValType}
 use Rattle.walrus_forms.specs.declared.value.ValType.TheVariants.{I32, I64, F32, F64, V128, Ref}
 use Rattle.wasm_ruled_normal.specs.wasm_ruled_modules.wasm_module_rules.wasm_modules.wasm_body_grammar.Rules.{Around, form_test, found_in, kind_test, latest_from, leads, pick, serves}
@@ -98,6 +98,7 @@ value_renamed r (Ref ty) = go ty.nullable ty.heap_type
     go : (nullable : Bool) (heap : HeapType) → value_from (renamed_value (r Types) (Ref (record { nullable = nullable; heap_type = heap })))
         ≡ names.renamed_value r (value_from (Ref (record { nullable = nullable; heap_type = heap })))
     go nullable (Abstract ty) = refl
+    go nullable (Shared ty) = refl
     go nullable (Concrete n) = refl
     go nullable (Exact n) = refl
 

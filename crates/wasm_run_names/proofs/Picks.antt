@@ -4,7 +4,7 @@ use Rattle.std.proofs.lemmas.Bool.{and_parts}
 use Rattle.std.specs.Prelude.{Option, Some, None, unwrap_or, slice_get}
 use Rattle.std.specs.Option.{option_map}
 use Rattle.walrus_forms.specs.declared.value.HeapType.{HeapType}
-use Rattle.walrus_forms.specs.declared.value.HeapType.TheVariants.{Abstract, Concrete, Exact}
+use Rattle.walrus_forms.specs.declared.value.HeapType.TheVariants.{Abstract, Shared, Concrete, Exact}
 use Rattle.walrus_forms.specs.declared.value.ValType.{ValType}
 use Rattle.walrus_forms.specs.declared.value.ValType.TheVariants.{I32, I64, F32, F64, V128, Ref}
 use Rattle.walrus_forms.specs.Forms.{Form, FunctionForm, StructForm, ArrayForm, params_of, results_of}
@@ -66,6 +66,7 @@ module _ (same : ℕ → ℕ) (r : Renaming) (absorbs : (n : ℕ) → r Types (s
       go : (nullable : Bool) (heap : HeapType) → names.renamed_value r (value_from (renamed_value same (Ref (record { nullable = nullable; heap_type = heap }))))
           ≡ names.renamed_value r (value_from (Ref (record { nullable = nullable; heap_type = heap })))
       go nullable (Abstract ty) = refl
+      go nullable (Shared ty) = refl
       go nullable (Concrete n) = ap (λ (k : ℕ). read_values.Ref (reference nullable (read_heaps.Concrete (Module k)))) (absorbs n)
       go nullable (Exact n) = ap (λ (k : ℕ). read_values.Ref (reference nullable (read_heaps.Exact (Module k)))) (absorbs n)
 
@@ -137,6 +138,7 @@ module _ (r : Renaming) where
       go : (nullable : Bool) (heap : HeapType) → value_from (renamed_value (r Types) (Ref (record { nullable = nullable; heap_type = heap })))
           ≡ names.renamed_value r (value_from (Ref (record { nullable = nullable; heap_type = heap })))
       go nullable (Abstract ty) = refl
+      go nullable (Shared ty) = refl
       go nullable (Concrete n) = refl
       go nullable (Exact n) = refl
 

@@ -5,7 +5,7 @@ use Rattle.std.proofs.lemmas.Bool.{cases_Bool, eqb-true}
 use Rattle.walrus_forms.specs.declared.value.AbstractHeapType.{AbstractHeapType}
 use Rattle.walrus_forms.specs.declared.value.AbstractHeapType.TheVariants as heaps
 use Rattle.walrus_forms.specs.declared.value.HeapType.{HeapType}
-use Rattle.walrus_forms.specs.declared.value.HeapType.TheVariants.{Abstract, Concrete, Exact}
+use Rattle.walrus_forms.specs.declared.value.HeapType.TheVariants.{Abstract, Shared, Concrete, Exact}
 use Rattle.walrus_forms.specs.declared.value.RefType.{RefType}
 use Rattle.walrus_forms.specs.Values.{nullable}
 use Rattle.wasm_grammar.specs.Modules.{Expr, Mode, Passive, Declared, Active, Elements, Functions, Expressions, Element, Segment}
@@ -72,6 +72,7 @@ func_is _ e = absurd cc
 
 func_heap_is : (ty : HeapType) → is_func_heap ty ≡ true → ty ≡ Abstract heaps.Func
 func_heap_is (Abstract ty) e = ap Abstract (func_is ty e)
+func_heap_is (Shared ty) e = absurd cc
 func_heap_is (Concrete n) e = absurd cc
 func_heap_is (Exact n) e = absurd cc
 

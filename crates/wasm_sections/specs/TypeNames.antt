@@ -54,7 +54,7 @@ super_names (Some index) = option_to_list (index_number index)
 abbrev pub sub_names : SubType → List ℕ
 sub_names ty = super_names ty.supertype_idx ++ inner_names ty.composite_type.inner
 
--- ---- what they stand for, where this project has a form for it: shared types have none
+-- ---- what they stand for, where this project has a form for it: shared composite types have none
 
 abbrev pub both : {A B C : Type 0} → (A → B → C) → Option A → Option B → Option C
 both make (Some a) (Some b) = Some (make a b)

@@ -16,15 +16,14 @@ use wasm_operators::OpCode;
 /// What pairing makes, one text: `back` where the instruction has the code of its name, and its operator is of the same form and written as the
 /// same bytes, `none` where there is no instruction, or the refusal, of an index by its space.
 pub(crate) const MADE: &str =
-    "back other none shared select alignment no-type no-function no-table no-memory no-tag no-global no-element no-data no-local no-label";
+    "back other none select alignment no-type no-function no-table no-memory no-tag no-global no-element no-data no-local no-label";
 
 // (The spaces stand in the text in the order of their declaration.)
 fn refused(fault: PairError) -> u32 {
     match fault {
-        PairError::Unknown(space) => (space as u32).saturating_add(6),
-        PairError::SharedType => 3,
-        PairError::Select => 4,
-        PairError::Alignment => 5,
+        PairError::Unknown(space) => (space as u32).saturating_add(5),
+        PairError::Select => 3,
+        PairError::Alignment => 4,
         _ => 1,
     }
 }

@@ -3,12 +3,16 @@
 use std::alloc::{AllocError, Global};
 use std::cell::Cell;
 use walrus_arena::{
-    ArenaSet, FunctionId, FunctionSpace, IdHashMap, IdHashSet, Tombstone, TombstoneArena, TypeId,
-    TypeSpace,
+    ArenaSet, FunctionId, FunctionSpace, IdHashMap, IdHashSet, Iter, Tombstone, TombstoneArena,
+    TypeId, TypeSpace,
 };
 
 #[derive(Clone, PartialEq, Eq, PartialOrd, Ord, Drop)]
 struct Word(u32);
+
+impl Tombstone for Word {
+    fn on_delete(&mut self) {}
+}
 
 // Counts how often it is told that it is deleted.
 #[derive(Drop)]
@@ -44,6 +48,51 @@ fn told(alloc: Global) -> Result<u32, AllocError> {
 #[test]
 fn an_item_is_told_once(rt: HostRuntime) {
     assert!(rt; told(rt.alloc()) == Ok(1));
+}
+
+fn delete_live(arena: &mut TombstoneArena<Word, TypeSpace>, id: TypeId) {
+    if arena.contains(id) {
+        arena.delete(id);
+    }
+}
+
+// Whether the item of this id comes next.
+fn gives(live: &mut Iter<'_, Word, TypeSpace>, id: TypeId) -> bool {
+    match live.next() {
+        Some((next, _)) => next == id,
+        None => false,
+    }
+}
+
+// Whether just the items of these ids live, by rising id.
+fn holds_three(arena: &TombstoneArena<Word, TypeSpace>, a: TypeId, b: TypeId, c: TypeId) -> bool {
+    let mut live = arena.iter();
+    gives(&mut live, a) && gives(&mut live, b) && gives(&mut live, c) && live.next().is_none()
+}
+
+// Whether the first, third and fifth of five ids live where the others were deleted, and a sixth id
+// is none of the five.
+fn gives_no_id_twice(arena: &mut TombstoneArena<Word, TypeSpace>) -> Result<bool, AllocError> {
+    let a = arena.alloc(Word(1))?;
+    let b = arena.alloc(Word(2))?;
+    let c = arena.alloc(Word(3))?;
+    let d = arena.alloc(Word(4))?;
+    let e = arena.alloc(Word(5))?;
+    delete_live(arena, b);
+    delete_live(arena, d);
+    let left = holds_three(arena, a, c, e);
+    let next = arena.alloc(Word(6))?;
+    Ok(left && next != a && next != b && next != c && next != d && next != e)
+}
+
+fn is_no_id_given_twice(alloc: Global) -> Result<bool, AllocError> {
+    let mut arena = TombstoneArena::new(alloc);
+    gives_no_id_twice(&mut arena)
+}
+
+#[test]
+fn no_id_is_given_twice(rt: HostRuntime) {
+    assert!(rt; is_no_id_given_twice(rt.alloc()) == Ok(true));
 }
 
 fn inserts(set: &mut ArenaSet<Word>) -> Result<bool, AllocError> {

@@ -8,8 +8,8 @@ use test_words::{are_shown, cut, head};
 use walrus_arena::TypeId;
 use walrus_forms::laws::reference_constants;
 use walrus_forms::{
-    ArrayType, CompositeType, FieldType, FunctionType, HeapType, RefType, StorageType, StructType,
-    ValType,
+    AbstractHeapType, ArrayType, CompositeType, FieldType, FunctionType, HeapType, RefType,
+    StorageType, StructType, ValType,
 };
 
 /// The function type of these parameters and results.
@@ -88,7 +88,11 @@ fn texts_of_types(rt: HostRuntime) {
             nullable: true,
             heap_type: HeapType::Concrete(id),
         }),
+        ValType::Ref(RefType {
+            nullable: true,
+            heap_type: HeapType::Shared(AbstractHeapType::NoExn),
+        }),
     ];
-    let texts = b"i32;i64;f32;f64;v128;(ref (exact 12));(ref null 12)";
+    let texts = b"i32;i64;f32;f64;v128;(ref (exact 12));(ref null 12);(ref null (shared noexn))";
     assert!(rt; are_shown(rt.alloc(), &values, texts));
 }

@@ -48,6 +48,8 @@ func:i64> struct:0 func:i32> | func:i64> struct:0 func:i32> @0,1,2
 # a group stays, and so does one of one type
 func:i64> func:i32> ring:2 func:f64> func:f32> | func:i32> func:i64> +struct:3&struct:2 func:f32> func:f64> @1,0,2,3,5,4
 func:i64> group:1 func:i32> | func:i64> +struct: func:i32> @0,1,2
+# a group of several types that is read without a mark is explicit
+func:i64> pair:@1,2 func:i32> || func:i64> +array:i8&array:i8 func:i32> @0,1,2,3
 # an open type, and a final one below it
 func:i64> array:i8/open array:i8/final<1 | func:i64> array:i8/open array:i8/final<1 @0,1,2
 # entry types are not written

@@ -2,6 +2,7 @@
 
 use crate::tables::chains::is_low;
 use crate::tables::forms::{form, function};
+use crate::tables::unmarked::reads_pair;
 use crate::tables::values::{Word, list};
 use crate::tables::words::{are_ids, is_id, number};
 use std::alloc::{AllocError, Global};
@@ -167,6 +168,7 @@ fn are_copied(alloc: Global, types: &ModuleTypes) -> Result<bool, AllocError> {
 /// - `func`, `struct`, `array`, `entry`: adds the type, which then has this id;
 /// - `both`: adds the function type with the type of its body's own block, of these ids;
 /// - `ring`, `group`, `half`: adds a marked group (see `members`), and copies all types and groups;
+/// - `pair`: reads a group of two types that has no mark, which get these ids (see `unmarked`);
 /// - `chain`: adds so many structures, each of which refers to the one before, behind one without fields;
 /// - `long`: a long chain of function types is found by a low index (see `chains`).
 pub(crate) fn take(alloc: Global, types: &mut ModuleTypes, step: &[u8]) -> Result<bool, IrError> {
@@ -179,6 +181,7 @@ pub(crate) fn take(alloc: Global, types: &mut ModuleTypes, step: &[u8]) -> Resul
             let is_added = adds_group(alloc, types, call, wanted);
             Ok(is_added && are_copied(alloc, types)?)
         }
+        b'p' => Ok(reads_pair(alloc, types, wanted)?),
         b'c' => {
             add_chain(alloc, types, number(args))?;
             Ok(true)

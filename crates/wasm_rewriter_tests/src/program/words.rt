@@ -26,6 +26,7 @@ const PLAIN: Options = Options {
     names: true,
     producers: true,
     places: false,
+    shared_types: false,
     keep_segments: false,
 };
 
@@ -65,6 +66,13 @@ fn each_flag_chooses_an_option(rt: HostRuntime) {
             "--places=FILE",
             Options {
                 places: true,
+                ..PLAIN
+            },
+        ),
+        (
+            "--shared-types",
+            Options {
+                shared_types: true,
                 ..PLAIN
             },
         ),

@@ -5,7 +5,7 @@ use Rattle.walrus_module.specs.walrus_body_writer.walrus_pairing.Looks.{number_o
 use Rattle.walrus_emit_code.specs.Code.{facts_at}
 use Rattle.walrus_emit_customs.specs.Names.{names_due}
 use Rattle.walrus_emit_parts.proofs.Lemmas.{refused_front, writes_on}
-use Rattle.walrus_emit_sections.specs.Items.{segments}
+use Rattle.walrus_emit_due.specs.Items.{segments}
 use Rattle.walrus_emit.specs.Whole.{payloads}
 use Rattle.walrus_emit.proofs.contents.write_behind_code.Goals as goal
 

@@ -8,8 +8,8 @@ use Rattle.walrus_emit_parts.specs.Due.{Due}
 use Rattle.walrus_emit_parts.proofs.Lemmas.{refused_front, writes_on}
 use Rattle.walrus_emit.proofs.WholeLemmas.{refused_later}
 use Rattle.walrus_emit_numbers.specs.Numbers.{functions_at}
-use Rattle.walrus_emit_uses.specs.FunctionTypes.{function_types}
-use Rattle.walrus_emit_uses.specs.Imports.{imports}
+use Rattle.walrus_emit_due.specs.FunctionTypes.{function_types}
+use Rattle.walrus_emit_due.specs.Imports.{imports}
 use Rattle.walrus_emit.specs.Whole.{types}
 use Rattle.walrus_emit.proofs.contents.write_front.Goals as goal
 

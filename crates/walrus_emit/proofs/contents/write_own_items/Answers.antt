@@ -7,7 +7,7 @@ use Rattle.wasm_grammar.specs.Modules.{Module}
 use Rattle.walrus_emit_parts.specs.Due.{Due}
 use Rattle.walrus_emit_parts.proofs.Lemmas.{refused_front, writes_on}
 use Rattle.walrus_emit.proofs.WholeLemmas.{refused_later}
-use Rattle.walrus_emit_sections.specs.Items.{exports, globals, memories, tables, tags}
+use Rattle.walrus_emit_due.specs.Items.{exports, globals, memories, tables, tags}
 use Rattle.walrus_emit.proofs.contents.write_own_items.Goals as goal
 
 pub returns-in-Err : goal.returns-in-Err

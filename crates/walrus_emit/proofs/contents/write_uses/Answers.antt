@@ -7,9 +7,9 @@ use Rattle.wasm_grammar.specs.Modules.{Module}
 use Rattle.walrus_emit_parts.specs.Due.{Due}
 use Rattle.walrus_emit_parts.proofs.Lemmas.{refused_front, writes_on}
 use Rattle.walrus_emit.proofs.WholeLemmas.{refused_later}
-use Rattle.walrus_emit_uses.specs.DataCount.{data_count}
-use Rattle.walrus_emit_uses.specs.Elements.{elements}
-use Rattle.walrus_emit_uses.specs.Starts.{start}
+use Rattle.walrus_emit_due.specs.DataCount.{data_count}
+use Rattle.walrus_emit_due.specs.Elements.{elements}
+use Rattle.walrus_emit_due.specs.Starts.{start}
 use Rattle.walrus_emit.proofs.contents.write_uses.Goals as goal
 
 pub returns-in-Err : goal.returns-in-Err

@@ -5,7 +5,7 @@ use Rattle.walrus_pairing.specs.Looks.{number_of}
 use Rattle.walrus_item_meaning.specs.Meaning.{own_export}
 use Rattle.walrus_emit_parts.specs.Due.{Refused, limited, text}
 use Rattle.walrus_emit_parts.proofs.Lemmas.{refused_front}
-use Rattle.walrus_emit_sections.specs.Items.{kind_index}
+use Rattle.walrus_emit_due.specs.Items.{kind_index}
 use Rattle.walrus_emit_sections.proofs.exports.write_export.Goals as goal
 
 pub returns-in-Err : goal.returns-in-Err

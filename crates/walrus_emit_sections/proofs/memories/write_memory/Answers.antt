@@ -2,8 +2,8 @@ use Rattle.std.proofs.Common.{ℕ, ◌≡◌, ◌++◌, subst}
 use Rattle.walrus_item_meaning.specs.Meaning.{own_memory}
 use Rattle.walrus_emit_parts.specs.Due.{Refused, written}
 use Rattle.walrus_emit_parts.proofs.Lemmas.{refused_front, writes_on}
-use Rattle.walrus_emit_values.specs.Values.{limits, optional}
-use Rattle.walrus_emit_sections.specs.Items.{memory_flags}
+use Rattle.walrus_emit_due.specs.Values.{limits, optional}
+use Rattle.walrus_emit_due.specs.Items.{memory_flags}
 use Rattle.walrus_emit_sections.proofs.memories.write_memory.Goals as goal
 
 pub returns-in-Err : goal.returns-in-Err

@@ -1,5 +1,5 @@
 use Rattle.walrus_item_meaning.specs.Meaning.{slots_of}
-use Rattle.walrus_emit_sections.specs.Own.{own_section}
+use Rattle.walrus_emit_due.specs.Own.{own_section}
 use Rattle.walrus_emit_sections.proofs.OwnLemmas.{live_passed, live_within}
 use Rattle.walrus_emit_sections.proofs.own.write_limited.Goals as goal
 

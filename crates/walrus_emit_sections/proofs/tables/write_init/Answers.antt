@@ -5,8 +5,8 @@ use Rattle.walrus_item_meaning.specs.Meaning.{own_table}
 use Rattle.walrus_module_items.specs.Words.{own_expr}
 use Rattle.walrus_emit_parts.specs.Due.{written}
 use Rattle.walrus_emit_parts.proofs.Lemmas.{refused_front, writes_on}
-use Rattle.walrus_emit_values.specs.Values.{expr}
-use Rattle.walrus_emit_sections.specs.Items.{table_type}
+use Rattle.walrus_emit_due.specs.Values.{expr}
+use Rattle.walrus_emit_due.specs.Items.{table_type}
 use Rattle.walrus_emit_sections.proofs.tables.write_init.Goals as goal
 
 pub returns-in-Err : goal.returns-in-Err

@@ -6,8 +6,8 @@ use Rattle.walrus_pairing.specs.Looks.{number_of}
 use Rattle.walrus_item_meaning.specs.Meaning.{own_table}
 use Rattle.walrus_emit_parts.specs.Due.{Writes}
 use Rattle.walrus_emit_parts.proofs.Lemmas.{writes_on}
-use Rattle.walrus_emit_values.specs.Values.{limits, reference}
-use Rattle.walrus_emit_sections.specs.Items.{table_flags}
+use Rattle.walrus_emit_due.specs.Values.{limits, reference}
+use Rattle.walrus_emit_due.specs.Items.{table_flags}
 use Rattle.walrus_emit_sections.proofs.tables.write_table_type.Goals as goal
 
 pub returns : goal.returns

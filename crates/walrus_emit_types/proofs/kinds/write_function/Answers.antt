@@ -1,7 +1,7 @@
 use Rattle.std.specs.Prelude.{map}
 use Rattle.walrus_forms.specs.Records.{value_of}
 use Rattle.walrus_emit_values.proofs.Lemmas.{byte_refused}
-use Rattle.walrus_emit_types.specs.Types.{list, value}
+use Rattle.walrus_emit_due.specs.Types.{list, value}
 use Rattle.walrus_emit_types.proofs.kinds.write_function.Goals as goal
 
 pub returns-in-Err-write_list : goal.returns-in-Err-write_list

@@ -1,6 +1,6 @@
 use Rattle.walrus_forms.specs.Records.{record_form}
 use Rattle.walrus_emit_values.proofs.Lemmas.{byte_refused}
-use Rattle.walrus_emit_types.specs.Types.{form, supertypes}
+use Rattle.walrus_emit_due.specs.Types.{form, supertypes}
 use Rattle.walrus_emit_types.proofs.kinds.write_open.Goals as goal
 
 pub returns-in-Err-write_supertypes : goal.returns-in-Err-write_supertypes

@@ -1,7 +1,7 @@
 use Rattle.std.proofs.Common.{ap}
 use Rattle.walrus_forms.specs.Records.{heap_of}
 use Rattle.walrus_emit_values.proofs.Lemmas.{lacks_exact}
-use Rattle.walrus_emit_types.specs.Types.{itself}
+use Rattle.walrus_emit_due.specs.Types.{itself}
 use Rattle.walrus_emit_types.proofs.values.write_heap.Goals as goal
 
 pub returns-in-Exact : goal.returns-in-Exact

@@ -1,7 +1,7 @@
 use Rattle.std.proofs.Common.{◌∙◌}
 use Rattle.walrus_collections.specs.LookUps.{items}
 use Rattle.walrus_meaning.specs.Meaning.{own_segment}
-use Rattle.walrus_emit_uses.specs.DataCount.{waits}
+use Rattle.walrus_emit_due.specs.DataCount.{waits}
 use Rattle.walrus_emit_uses.proofs.Lemmas.{any_here, passive_is}
 use Rattle.walrus_emit_uses.proofs.data_count.has_passive.Goals as goal
 

@@ -2,7 +2,7 @@ use Rattle.std.proofs.Common.{◌≡◌, map}
 use Rattle.std.specs.List.{list_any}
 use Rattle.walrus_collections.specs.LookUps.{items}
 use Rattle.walrus_meaning.specs.Meaning.{own_segment}
-use Rattle.walrus_emit_uses.specs.DataCount.{waits}
+use Rattle.walrus_emit_due.specs.DataCount.{waits}
 use Rattle.walrus_emit_uses.proofs.data_count.has_passive.Given as goal
 
 abbrev pub invariant-loop-segment : goal.invariant-loop-segment

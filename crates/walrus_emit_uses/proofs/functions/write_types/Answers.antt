@@ -2,7 +2,7 @@ use Rattle.std.specs.Prelude.{[]}
 use Rattle.walrus_index_maps.specs.Views.{indices}
 use Rattle.walrus_pairing.specs.Looks.{number_of}
 use Rattle.walrus_meaning.specs.Meaning.{own_function, slots_of}
-use Rattle.walrus_emit_uses.specs.FunctionTypes.{type_in}
+use Rattle.walrus_emit_due.specs.FunctionTypes.{type_in}
 use Rattle.walrus_emit_uses.proofs.Lemmas.{no_entries, some_entries}
 use Rattle.walrus_emit_uses.proofs.functions.write_types.Goals as goal
 

@@ -1,4 +1,4 @@
-use Rattle.walrus_emit_sections.specs.Items.{space_kind}
+use Rattle.walrus_emit_due.specs.Items.{space_kind}
 use Rattle.walrus_meaning.specs.Meaning.{own_brought}
 use Rattle.walrus_emit_uses.proofs.Lemmas.{behind_code, code_refused}
 use Rattle.walrus_emit_uses.proofs.imports.write_entity.Goals as goal

@@ -1,7 +1,7 @@
 use Rattle.walrus_index_maps.specs.Views.{indices}
 use Rattle.walrus_pairing.specs.Looks.{number_of}
 use Rattle.walrus_meaning.specs.Meaning.{own_global}
-use Rattle.walrus_emit_sections.specs.Items.{global_type}
+use Rattle.walrus_emit_due.specs.Items.{global_type}
 use Rattle.walrus_emit_uses.proofs.Lemmas.{not_linked, not_live}
 use Rattle.walrus_emit_uses.proofs.imports.write_global.Goals as goal
 

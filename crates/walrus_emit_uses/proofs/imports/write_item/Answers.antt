@@ -1,7 +1,7 @@
 use Rattle.std.proofs.Common.{ℕ, List, string_bytes, subst}
 use Rattle.walrus_emit_parts.specs.Due.{Refused}
 use Rattle.walrus_emit_parts.proofs.Lemmas.{refused_front}
-use Rattle.walrus_emit_uses.specs.Imports.{name}
+use Rattle.walrus_emit_due.specs.Imports.{name}
 use Rattle.walrus_emit_uses.proofs.imports.write_item.Goals as goal
 
 pub returns-in-Err : goal.returns-in-Err

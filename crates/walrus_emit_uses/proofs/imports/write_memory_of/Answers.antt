@@ -1,5 +1,5 @@
 use Rattle.walrus_meaning.specs.Meaning.{own_memory}
-use Rattle.walrus_emit_sections.specs.Items.{memory}
+use Rattle.walrus_emit_due.specs.Items.{memory}
 use Rattle.walrus_emit_uses.proofs.Lemmas.{not_linked, not_live}
 use Rattle.walrus_emit_uses.proofs.imports.write_memory_of.Goals as goal
 

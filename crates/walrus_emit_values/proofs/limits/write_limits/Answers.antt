@@ -1,5 +1,5 @@
 use Rattle.walrus_emit_parts.specs.Due.{number}
-use Rattle.walrus_emit_values.specs.Values.{optional}
+use Rattle.walrus_emit_due.specs.Values.{optional}
 use Rattle.walrus_emit_values.proofs.Lemmas.{byte_refused}
 use Rattle.walrus_emit_values.proofs.limits.write_limits.Goals as goal
 

@@ -2,7 +2,7 @@ use Rattle.std.proofs.Common.{subst}
 use Rattle.wasm_ref_types.specs.declared.heap.HeapType.{HeapType}
 use Rattle.walrus_index_maps.specs.Views.{indices}
 use Rattle.walrus_emit_parts.specs.Due.{Writes}
-use Rattle.walrus_emit_values.specs.Values.{heap}
+use Rattle.walrus_emit_due.specs.Values.{heap}
 use Rattle.walrus_emit_values.proofs.Heaps.{heap_same}
 use Rattle.walrus_emit_values.proofs.types.write_own_heap.Goals as goal
 

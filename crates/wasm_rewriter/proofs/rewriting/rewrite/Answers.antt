@@ -29,6 +29,11 @@ returns-in_err-emitted-clause-too_long c =
     let p = err_from_is_err_and c.from_residual-in_err-emitted.result c.from_residual-in_err-emitted.ensures.1 in
     rw (p.1, p.2) (refused_long c.args.options.now c.args.bytes.now _ (may_refuse c.args.options.now c.args.bytes.now _ c.in_ok-input.ensures.read c.in_err-emitted.ensures))
 
+pub returns-in_err-emitted-clause-accepted : goal.returns-in_err-emitted-clause-accepted
+returns-in_err-emitted-clause-accepted c =
+    let p = err_from_is_err_and c.from_residual-in_err-emitted.result c.from_residual-in_err-emitted.ensures.1 in
+    rw (p.1, p.2) (λ reads. c.in_err-emitted.ensures)
+
 pub returns-clause-refused : goal.returns-clause-refused
 returns-clause-refused c = read_refused c.args.options.now c.args.bytes.now c.in_ok-input.ensures.read c.with_places.result c.with_places.ensures.refused
 

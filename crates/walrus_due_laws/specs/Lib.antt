@@ -1,0 +1,15 @@
+pub mod Spelled
+pub mod Types
+pub mod Imports
+pub mod FunctionTypes
+pub mod Tables
+pub mod Memories
+pub mod Tags
+pub mod Globals
+pub mod Exports
+pub mod Starts
+pub mod Elements
+pub mod DataCounts
+pub mod Segments
+pub mod Listed
+pub mod Standard

@@ -1,0 +1,56 @@
+-- Where code stands in what was written.
+use Rattle.std.specs.Prelude.{ℕ, ◌+◌, ◌≡◌, ◌≤◌, ◌==◌, ◌↔◌, Bool, true, not, List, [], ◌∷◌, Contains, map, if◌then◌else◌}
+use Rattle.std.specs.List.Sorted.{IsPermutation, IsSortedByKey, IsStrictlySortedBy}
+use Rattle.std.specs.Ordering.{nat_cmp, ordering_then}
+use Rattle.std.specs.declared.cmp.Ordering.{Ordering}
+use Rattle.std.specs.declared.ops.Range.{Range}
+use Rattle.walrus_instr.specs.declared.seq.InstrLocId.{InstrLocId}
+
+-- an operator of the location stands at this place, and none of it further on
+pub record IsLastPlace (locations : List (ℕ × ℕ)) (location at : ℕ) : Type 0 where
+  pub stands : Contains locations (location, at)
+  pub last : (other : ℕ) → Contains locations (location, other) → other ≤ at
+
+-- places are counted from there
+pub record IsPlaceOf (locations : List (ℕ × ℕ)) (start : ℕ) (p : InstrLocId × ℕ) : Type 0 where
+  pub at : ℕ
+  pub counted : p.1 ≡ start + at
+  pub last : IsLastPlace locations p.0.0 at
+
+-- of each location its last place, by rising location
+pub record ArePlaces (locations : List (ℕ × ℕ)) (start : ℕ) (found : List (InstrLocId × ℕ)) : Type 0 where
+  pub rising : IsStrictlySortedBy nat_cmp (map (λ (p : InstrLocId × ℕ). p.0.0) found)
+  pub each : (p : InstrLocId × ℕ) → Contains found p ↔ IsPlaceOf locations start p
+
+-- a range of places that are counted from there
+abbrev pub range_from : ℕ → ℕ × Range ℕ → ℕ × Range ℕ
+range_from start r = (r.0, record { start = start + r.1.start; end = start + r.1.end })
+
+-- the same functions, by rising id, each with its range
+pub record AreRanges (ranges : List (ℕ × Range ℕ)) (start : ℕ) (found : List (ℕ × Range ℕ)) : Type 0 where
+  pub same : IsPermutation (map (range_from start) ranges) found
+  pub rising : IsSortedByKey (λ (r : ℕ × Range ℕ). r.0) nat_cmp found
+
+-- ---- how they are found: pairs of one location stand together, the last place last
+
+abbrev pub Pair : Type 0
+Pair = ℕ × ℕ
+
+-- by location, then by place
+abbrev pub pair_cmp : Pair → Pair → Ordering
+pair_cmp x y = ordering_then (nat_cmp x.0 y.0) (nat_cmp x.1 y.1)
+
+abbrev pub ends : List (ℕ × ℕ) → Bool
+ends [] = true
+ends (p ∷ []) = true
+ends (p ∷ q ∷ ps) = not (q.0 == p.0)
+
+abbrev pub lasts : List (ℕ × ℕ) → List (ℕ × ℕ)
+lasts [] = []
+lasts (p ∷ ps) = if ends (p ∷ ps) then p ∷ lasts ps else lasts ps
+
+abbrev pub placed : ℕ → ℕ × ℕ → InstrLocId × ℕ
+placed start p = (record { 0 = p.0 }, start + p.1)
+
+abbrev pub all_placed : ℕ → List (ℕ × ℕ) → List (InstrLocId × ℕ)
+all_placed start pairs = map (placed start) (lasts pairs)

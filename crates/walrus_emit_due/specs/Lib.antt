@@ -1,0 +1,10 @@
+pub mod Values
+pub mod Own
+pub mod Items
+pub mod Slots
+pub mod Imports
+pub mod FunctionTypes
+pub mod Elements
+pub mod DataCount
+pub mod Starts
+pub mod Types

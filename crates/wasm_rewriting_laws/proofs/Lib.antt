@@ -1,0 +1,15 @@
+mod Agree
+mod Customs
+mod Declared
+mod Fall
+mod Filters
+mod Listed
+mod Lists
+mod Names
+mod Placeless
+mod Rewriting
+mod Stay
+mod Texts
+mod Told
+mod Types
+mod Unplaced

@@ -1,0 +1,4 @@
+pub mod Fall
+pub mod Rewriting
+pub mod Stay
+pub mod Told
