@@ -22,7 +22,7 @@ MOST = {
     "docs/ARCHITECTURE.md": 150,
     "docs/DECISIONS.md": 150,
     "docs/DEFINITIONS.md": 150,
-    "docs/DIFFERENCES.md": 93,
+    "docs/DIFFERENCES.md": 90,
     "docs/EXAMPLES.md": 150,
     "docs/GATE.md": 60,
     "docs/LIBRARY.md": 150,

@@ -20,7 +20,7 @@ import shutil
 import subprocess
 import sys
 
-NOT_LIBRARIES = ["rewriter_program", "inspect_program"]
+NOT_LIBRARIES = ["rewriter_program", "inspect_program", "examples"]
 PROGRAMS = re.compile(r"(_tests|_cli|_rows|_program|^rows)$")
 
 

@@ -78,3 +78,12 @@ pub use Rattle.wasm_references.specs.Kept as MeantKept
 pub use Rattle.wasm_references.specs.References as MeantReferences
 pub use Rattle.wasm_references.specs.Roots as MeantRoots
 pub use Rattle.walrus_pass_laws.specs.Meant
+-- Look-ups, roots as a list, and what an item names.
+pub use Rattle.walrus_lookups.specs.Code as CodeContents
+pub use Rattle.walrus_lookups.specs.Customs as NamedSections
+pub use Rattle.walrus_lookups.specs.Found as FoundFunctions
+pub use Rattle.walrus_lookups.specs.Labels
+pub use Rattle.walrus_lookups.specs.Places as CodePlaces
+pub use Rattle.walrus_reasons.specs.Added as JustItems
+pub use Rattle.walrus_reasons.specs.Picks as PickedItems
+pub use Rattle.walrus_reasons.specs.RootLists

@@ -15,6 +15,7 @@ pub use walrus_emit::{Emit, EmitContext, EmitWasm};
 pub use walrus_errors::{ErrorKind, Form, Limited, ModuleError, Result, Space};
 pub use walrus_index_maps::{IdsToIndices, IndicesToIds};
 pub use walrus_ir as ir;
+pub use walrus_lookups::{ByName, DeleteNamed, Finds, Labels, Places, code_section_start};
 pub use walrus_module::Module;
 pub use walrus_module_items::{
     Data, DataKind, Element, ElementItems, ElementKind, Export, ExportItem, FuncParams,
@@ -29,6 +30,7 @@ pub use walrus_sections::{
 /// What of a module is used, and dropping the rest.
 pub mod passes {
     pub use walrus_passes::{Used, gc};
+    pub use walrus_reasons::{Reason, references, roots};
     pub use walrus_roots::{Item, Roots};
 }
 
@@ -75,6 +77,7 @@ pub mod laws {
             kept_is_meant, passes_keep_what_is_meant, references_are_meant,
         };
         pub use walrus_pass_laws::references::kept_is_least;
+        pub use walrus_reasons::roots_are_listed;
         pub use wasm_references::kept_is_least as meant_kept_is_least;
     }
 }

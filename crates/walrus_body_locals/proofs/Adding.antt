@@ -5,7 +5,7 @@ use Rattle.std.proofs.lemmas.List.{append_assoc, length-append}
 use Rattle.walrus_forms.specs.declared.value.ValType.{ValType}
 use Rattle.walrus_pairing.specs.walrus_items.declared.local.Local.{Local}
 use Rattle.walrus_index_maps.specs.Maps.{Ids, with_last}
-use Rattle.walrus_body_locals.specs.Locals.{locals_from, ids_from, with_more, with_locals, Adds, Leaves}
+use Rattle.walrus_body_locals.specs.Locals.{locals_from, ids_from, with_more, with_locals, Adds}
 
 pub locals_more : (xs ys : List ValType) (n : ℕ) → locals_from n (xs ++ ys) ≡ locals_from n xs ++ locals_from (n + length xs) ys
 locals_more [] ys n = ap (λ (k : ℕ). locals_from k ys) (omega arith)
@@ -56,42 +56,12 @@ adds_more function xs ys ls ms ns i j k a b =
           ∙ with_both function (ids_from (length ls) xs) (ids_from (length ls + length xs) ys) i ∙ ap (λ (l : List ℕ). with_locals function l i) (sym (ids_more xs ys (length ls)));
     }
 
-pub adds_leaves : (function : ℕ) (xs : List ValType) (ls ms : List Local) (i j : Ids) → Adds function xs ls ms i j → Leaves function ls ms i j
-adds_leaves function xs ls ms i j a =
-    record { tys = xs; ids = ids_from (length ls) xs; added = a.added; named = a.named; unnamed = []; all = append-nil (ids_from (length ls) xs); few = omega arith }
-
-pub leaves_more : (function : ℕ) (xs : List ValType) (ls ms ns : List Local) (i j k : Ids) → Adds function xs ls ms i j → Leaves function ms ns j k → Leaves function ls ns i k
-leaves_more function xs ls ms ns i j k a b =
-    let both = adds_more function xs b.tys ls ms ns i j (with_locals function (ids_from (length ms) b.tys) j) a (record { added = b.added; named = refl }) in
-    let many : length ms ≡ length ls + length xs = ap length a.added ∙ length-append ls (locals_from (length ls) xs) ∙ ap (λ (n : ℕ). length ls + n) (length_locals xs (length ls)) in
-    record {
-      tys = xs ++ b.tys;
-      ids = ids_from (length ls) xs ++ b.ids;
-      added = both.added;
-      named = b.named ∙ ap (λ (l : Ids). with_locals function b.ids l) a.named ∙ with_both function (ids_from (length ls) xs) b.ids i;
-      unnamed = b.unnamed;
-      all = append_assoc (ids_from (length ls) xs) b.ids b.unnamed ∙ ap (λ (l : List ℕ). ids_from (length ls) xs ++ l) (b.all ∙ ap (λ (n : ℕ). ids_from n b.tys) many) ∙ sym (ids_more xs b.tys (length ls));
-      few = b.few;
-    }
-
 -- one local
 pub adds_one : (function : ℕ) (ty : ValType) (ls ms : List Local) (i j : Ids) (id : ℕ) → id ≡ length ls → ms ≡ ls ++ record { id = id; ty = ty; name = None } ∷ [] → j ≡ record i { locals = with_last function id i.locals }
     → Adds function (ty ∷ []) ls ms i j
 adds_one function ty ls ms i j id e a n = record {
   added = a ∙ ap (λ (k : ℕ). ls ++ record { id = k; ty = ty; name = None } ∷ []) e;
   named = n ∙ ap (λ (k : ℕ). with_locals function (k ∷ []) i) e;
-}
-
--- one local that no index names
-pub leaves_one : (function : ℕ) (ty : ValType) (ls ms : List Local) (i j : Ids) (id : ℕ) → id ≡ length ls → ms ≡ ls ++ record { id = id; ty = ty; name = None } ∷ [] → j ≡ i → Leaves function ls ms i j
-leaves_one function ty ls ms i j id e a n = record {
-  tys = ty ∷ [];
-  ids = [];
-  added = a ∙ ap (λ (k : ℕ). ls ++ record { id = k; ty = ty; name = None } ∷ []) e;
-  named = n ∙ locals_none function i;
-  unnamed = length ls ∷ [];
-  all = refl;
-  few = omega arith;
 }
 
 many_behind : (n : ℕ) (ty : ValType) → repeat n (ty ∷ []) ++ ty ∷ [] ≡ repeat (suc n) (ty ∷ [])

@@ -12,8 +12,6 @@ use Rattle.wasm_reader.specs.Numbers.{unsigned_at}
 use Rattle.wasm_reader.specs.Cursor.{Window, Cursor, rest, end_of, Forward}
 use Rattle.walrus_forms.specs.declared.value.ValType.{ValType}
 use Rattle.walrus_forms.specs.Renaming.{at, renamed_value}
-use Rattle.walrus_pairing.specs.walrus_items.declared.local.Local.{Local}
-use Rattle.walrus_index_maps.specs.Maps.{Ids}
 use Rattle.wasm_formats.specs.Stops.{Read, stop, Parsing}
 use Rattle.wasm_formats.specs.Wholes.{u32}
 use Rattle.walrus_body_nesting.specs.wasm_body_grammar.Rules.{Around}
@@ -24,11 +22,10 @@ use Rattle.walrus_body_nesting.specs.walrus_body_env.declared.error.BodyError.Th
 use Rattle.walrus_body_nesting.specs.walrus_body_env.Faults.{read_fault}
 use Rattle.walrus_body_locals.specs.Calls.{IsFaultOf}
 use Rattle.walrus_body_locals.specs.Told.{Telling, Fails, AnswersTold, Tells, Pass, pass_on, pass_entries}
-use Rattle.walrus_body_locals.specs.Locals.{IsRunOf, run_in, IsSeen, RefusesRuns, Adds, Declares}
-use Rattle.walrus_body_locals.proofs.Adding.{adds_none, adds_more}
+use Rattle.walrus_body_locals.specs.Locals.{IsRunOf, run_in, IsSeen, ReadsRuns, RefusesRuns}
 use Rattle.walrus_body_locals.proofs.Answering.{end_stays, reader_refuses}
 
--- ---- the locals of one more run
+-- ---- the types of one more run
 
 many_renamed : (r : ℕ → ℕ) (n : ℕ) (ty : ValType) → map (renamed_value r) (repeat n (ty ∷ [])) ≡ repeat n (renamed_value r ty ∷ [])
 many_renamed r zero ty = refl
@@ -43,49 +40,62 @@ own_more types runs run =
     ap (λ (l : List ValType). map (renamed_value (at types)) l) (flat_map-append f runs (run ∷ []) ∙ ap (λ (l : List ValType). declared runs ++ l) (append-nil (f run)))
     ∙ map-append (renamed_value (at types)) (declared runs) (f run) ∙ ap (λ (l : List ValType). own_types types runs ++ l) (many_renamed (at types) run.0 run.1)
 
--- ---- some runs were read and declared
+-- ---- some runs were read
 
 abbrev pub reads_at : WasmFeatures → List ℕ → ℕ → List ℕ → Parsing Run
 reads_at features types total = (run_in features (length types) total).parse
 
-pub record Going {V : Type 0} (told : Telling Run V) (function params count : ℕ) (old new : Cursor) (ls ms : List Local) (i j : Ids) (v w : V) (total done : ℕ) : Type 0 where
+pub record Going {V : Type 0} (told : Telling Run V) (params count : ℕ) (old new : Cursor) (types : List ℕ) (v w : V) (own : List Run) (total done : ℕ) : Type 0 where
   pub mid : List ℕ
   pub runs : List Run
   pub counted : u32.parse (rest old) ≡ Ok (count, mid)
-  pub passed : Pass next_total (reads_at old.window.features i.types) told (end_of old) params v mid runs (rest new) w
+  pub passed : Pass next_total (reads_at old.window.features types) told (end_of old) params v mid runs (rest new) w
   pub many : length runs ≡ done
   pub total_is : total ≡ fold next_total params runs
-  pub adds : Adds function (own_types i.types runs) ls ms i j
+  pub own_are : declared own ≡ own_types types runs
+  pub sum_is : total ≡ params + length (declared own)
+  pub few : (total ≡ params) ⊎ (total ≤ 50000)
   pub moves : Forward old new
 
-pub going_start : {V : Type 0} (told : Telling Run V) (function params count : ℕ) (old new : Cursor) (ls : List Local) (i : Ids) (v : V) → unsigned_at 32 (rest old) ≡ Ok (count, rest new) → Forward old new
-    → Going told function params count old new ls ls i i v v params 0
-going_start told function params count old new ls i v e moves = record {
+pub going_start : {V : Type 0} (told : Telling Run V) (params count : ℕ) (old new : Cursor) (types : List ℕ) (v : V) → unsigned_at 32 (rest old) ≡ Ok (count, rest new) → Forward old new
+    → Going told params count old new types v v [] params 0
+going_start told params count old new types v e moves = record {
   mid = rest new;
   runs = [];
   counted = rw e refl;
   passed = (refl, refl);
   many = refl;
   total_is = refl;
-  adds = adds_none function ls i;
+  own_are = refl;
+  sum_is = omega arith;
+  few = inl refl;
   moves = moves;
 }
 
-module _ {V : Type 0} (told : Telling Run V) (function params count : ℕ) (old new next : Cursor) (ls ms ns : List Local) (i j k : Ids) (v w x : V) (total done : ℕ) (g : Going told function params count old new ls ms i j v w total done) where
+pub repeat_length : (n : ℕ) (ty : ValType) → length (repeat n (ty ∷ [])) ≡ n
+repeat_length zero ty = refl
+repeat_length (suc n) ty = ap suc (repeat_length n ty)
+
+-- as they are declared
+pub own_declared : (own : List Run) (run : Run) → declared (own ++ run ∷ []) ≡ declared own ++ repeat run.0 (run.1 ∷ [])
+own_declared own run =
+    let f : Run → List ValType = λ r. repeat r.0 (r.1 ∷ []) in
+    flat_map-append f own (run ∷ []) ∙ ap (λ (l : List ValType). declared own ++ l) (append-nil (f run))
+
+module _ {V : Type 0} (told : Telling Run V) (params count : ℕ) (old new next : Cursor) (types : List ℕ) (v w x : V) (own : List Run) (total done : ℕ) (g : Going told params count old new types v w own total done) where
   -- the next run is read so too
   abbrev nexts : List ℕ → Parsing Run
-  nexts = reads_at new.window.features j.types total
+  nexts = reads_at new.window.features types total
 
   abbrev wants : List ℕ → Parsing Run
-  wants = reads_at old.window.features i.types (fold next_total params g.runs)
+  wants = reads_at old.window.features types (fold next_total params g.runs)
 
   same_reads : nexts ≡ wants
   same_reads =
-      ap (λ (f : WasmFeatures). reads_at f j.types total) (ap (λ (w : Window). w.features) g.moves.window)
-      ∙ ap (λ (l : Ids). reads_at old.window.features l.types total) g.adds.named
-      ∙ ap (λ (t : ℕ). reads_at old.window.features i.types t) g.total_is
+      ap (λ (f : WasmFeatures). reads_at f types total) (ap (λ (w : Window). w.features) g.moves.window)
+      ∙ ap (λ (t : ℕ). reads_at old.window.features types t) g.total_is
 
-  on_forward : Forward new next → Forward old next
+  pub on_forward : Forward new next → Forward old next
   on_forward moves = record {
     window = moves.window ∙ g.moves.window;
     forward = let a = g.moves.forward in let b = moves.forward in omega (arith, a, b);
@@ -93,24 +103,22 @@ module _ {V : Type 0} (told : Telling Run V) (function params count : ℕ) (old 
   }
 
   -- with it, too
-  passed_on : (more : ℕ) (ty : ValType) (t : Tells nexts told (IsRunOf j.types) new next w x (Ok (more, ty)))
-      → Pass next_total (reads_at old.window.features i.types) told (end_of old) params v g.mid (g.runs ++ t.value.0 ∷ []) (rest next) x
+  passed_on : (more : ℕ) (ty : ValType) (t : Tells nexts told (IsRunOf types) new next w x (Ok (more, ty)))
+      → Pass next_total (reads_at old.window.features types) told (end_of old) params v g.mid (g.runs ++ t.value.0 ∷ []) (rest next) x
   passed_on more ty t =
       let run = t.value.0 in
       let P : (List ℕ → Parsing Run) → Type 0 = λ p. p (rest new) ≡ Ok (run, rest next) in
       let T : ℕ → Type 0 = λ end. told w (end - length (rest new)) run ≡ (None, x) in
-      pass_on next_total (reads_at old.window.features i.types) told (end_of old) g.runs params v g.mid (rest new) (rest next) w x run g.passed
+      pass_on next_total (reads_at old.window.features types) told (end_of old) g.runs params v g.mid (rest new) (rest next) w x run g.passed
       (subst P same_reads t.value.1) (subst T (end_stays old new g.moves) t.value.2)
 
-  pub going_on : (more : ℕ) (ty : ValType) → Tells nexts told (IsRunOf j.types) new next w x (Ok (more, ty)) → Adds function (repeat more (ty ∷ [])) ms ns j k
-      → Going told function params count old next ls ns i k v x (total + more) (done + 1)
-  going_on more ty t a =
+  pub going_on : (more : ℕ) (ty : ValType) → Tells nexts told (IsRunOf types) new next w x (Ok (more, ty)) → total + more ≤ 50000
+      → Going told params count old next types v x (own ++ (more, ty) ∷ []) (total + more) (done + 1)
+  going_on more ty t few =
       let run = t.value.0 in
-      let named : ty ≡ renamed_value (at i.types) run.1 = t.value.3.1 ∙ ap (λ (l : Ids). renamed_value (at l.types) run.1) g.adds.named in
-      let own : repeat more (ty ∷ []) ≡ repeat run.0 (renamed_value (at i.types) run.1 ∷ []) =
-      ap (λ (n : ℕ). repeat n (ty ∷ [])) t.value.3.0 ∙ ap (λ (z : ValType). repeat run.0 (z ∷ [])) named in
-      let F : List ValType → Type 0 = λ tys. Adds function tys ms ns j k in
-      let G : List ValType → Type 0 = λ tys. Adds function tys ls ns i k in
+      let one : repeat more (ty ∷ []) ≡ repeat run.0 (renamed_value (at types) run.1 ∷ []) =
+      ap (λ (n : ℕ). repeat n (ty ∷ [])) t.value.3.0 ∙ ap (λ (z : ValType). repeat run.0 (z ∷ [])) t.value.3.1 in
+      let longer = ap length (own_declared own (more, ty)) ∙ length-append (declared own) (repeat more (ty ∷ [])) ∙ ap (λ (n : ℕ). length (declared own) + n) (repeat_length more ty) in
       record {
         mid = g.mid;
         runs = g.runs ++ run ∷ [];
@@ -118,23 +126,25 @@ module _ {V : Type 0} (told : Telling Run V) (function params count : ℕ) (old 
         passed = passed_on more ty t;
         many = length-append g.runs (run ∷ []) ∙ ap (λ (n : ℕ). n + 1) g.many;
         total_is = ap (λ (n : ℕ). n + more) g.total_is ∙ ap (λ (n : ℕ). fold next_total params g.runs + n) t.value.3.0 ∙ sym (fold-append next_total params g.runs (run ∷ []));
-        adds = subst G (sym (own_more i.types g.runs run)) (adds_more function (own_types i.types g.runs) (repeat run.0 (renamed_value (at i.types) run.1 ∷ [])) ls ms ns i j k g.adds (subst F own a));
+        own_are = own_declared own (more, ty) ∙ ap (λ (l : List ValType). l ++ repeat more (ty ∷ [])) g.own_are ∙ ap (λ (l : List ValType). own_types types g.runs ++ l) one ∙ sym (own_more types g.runs run);
+        sum_is = (let s = g.sum_is in omega (arith, s, longer));
+        few = inr few;
         moves = on_forward t.moves;
       }
 
   -- ---- in words of the grammar
 
-  in_words : (runs : List Run) (later : List ℕ) (z : V) → Pass next_total (reads_at old.window.features i.types) told (end_of old) params v g.mid runs later z
-      → (a : Around) → IsSeen old.window.features i.types a → Pass next_total (λ t. (grammar.run a t).parse) told (end_of old) params v g.mid runs later z
+  in_words : (runs : List Run) (later : List ℕ) (z : V) → Pass next_total (reads_at old.window.features types) told (end_of old) params v g.mid runs later z
+      → (a : Around) → IsSeen old.window.features types a → Pass next_total (λ t. (grammar.run a t).parse) told (end_of old) params v g.mid runs later z
   in_words runs later z h a s =
-      let F : WasmFeatures → Type 0 = λ f. Pass next_total (λ t. (run_in f (length i.types) t).parse) told (end_of old) params v g.mid runs later z in
+      let F : WasmFeatures → Type 0 = λ f. Pass next_total (λ t. (run_in f (length types) t).parse) told (end_of old) params v g.mid runs later z in
       let G : ℕ → Type 0 = λ n. Pass next_total (λ t. (run_in a.features n t).parse) told (end_of old) params v g.mid runs later z in
       subst G (sym s.types_are) (subst F (sym s.features_are) h)
 
-  passed_in : (a : Around) → IsSeen old.window.features i.types a → Pass next_total (λ t. (grammar.run a t).parse) told (end_of old) params v g.mid g.runs (rest new) w
+  passed_in : (a : Around) → IsSeen old.window.features types a → Pass next_total (λ t. (grammar.run a t).parse) told (end_of old) params v g.mid g.runs (rest new) w
   passed_in a s = in_words g.runs (rest new) w g.passed a s
 
-  pub going_done : count ≡ done → Declares told function params old new i.types ls ms i j v w
+  pub going_done : count ≡ done → ReadsRuns told params old new types v w own total
   going_done e = record {
     runs = g.runs;
     read = λ a s.
@@ -144,32 +154,38 @@ module _ {V : Type 0} (told : Telling Run V) (function params count : ℕ) (old 
     passed = λ a s.
         let F : ℕ → Type 0 = λ n. u32.parse (rest old) ≡ Ok (n, g.mid) in
         (g.mid, subst F (e ∙ sym g.many) g.counted, passed_in a s);
-    adds = g.adds;
+    own_are = g.own_are;
+    total_is = g.sum_is;
+    few = g.few;
   }
 
-  pub going_fails : (e : BodyError) → done < count → Tells nexts told (IsRunOf j.types) new next w x (Err e) → RefusesRuns told params old i.types v x e
+  pub going_fails : (e : BodyError) → done < count → Tells nexts told (IsRunOf types) new next w x (Err e) → RefusesRuns told params old types v x e
   going_fails e l t = go t.value
     where
-      fails_in : (a : Around) → IsSeen old.window.features i.types a → Fails nexts told (end_of new) w (rest new) x e → Fails (grammar.run a (fold next_total params g.runs)).parse told (end_of old) w (rest new) x e
+      fails_in : (a : Around) → IsSeen old.window.features types a → Fails nexts told (end_of new) w (rest new) x e → Fails (grammar.run a (fold next_total params g.runs)).parse told (end_of old) w (rest new) x e
       fails_in a s h =
           let A : (List ℕ → Parsing Run) → Type 0 = λ p. Fails p told (end_of new) w (rest new) x e in
           let B : ℕ → Type 0 = λ end. Fails wants told end w (rest new) x e in
-          let F : WasmFeatures → Type 0 = λ f. Fails (run_in f (length i.types) (fold next_total params g.runs)).parse told (end_of old) w (rest new) x e in
+          let F : WasmFeatures → Type 0 = λ f. Fails (run_in f (length types) (fold next_total params g.runs)).parse told (end_of old) w (rest new) x e in
           let G : ℕ → Type 0 = λ n. Fails (run_in a.features n (fold next_total params g.runs)).parse told (end_of old) w (rest new) x e in
           subst G (sym s.types_are) (subst F (sym s.features_are) (subst B (end_stays old new g.moves) (subst A same_reads h)))
 
-      go : AnswersTold nexts told (IsRunOf j.types) new next w x (Err e) → RefusesRuns told params old i.types v x e
+      go : AnswersTold nexts told (IsRunOf types) new next w x (Err e) → RefusesRuns told params old types v x e
       go (inl m) =
           let few : length g.runs ≤ count = (let n = g.many in omega (arith, l, n)) in
-          inl (m.0, λ a s. inr (count, g.mid, g.runs, rest new, g.counted, few, in_words g.runs (rest new) x (subst (λ (z : V). Pass next_total (reads_at old.window.features i.types) told (end_of old) params v g.mid g.runs (rest new) z) (sym m.1) g.passed) a s))
+          inl (m.0, λ a s. inr (count, g.mid, g.runs, rest new, g.counted, few, in_words g.runs (rest new) x (subst (λ (z : V). Pass next_total (reads_at old.window.features types) told (end_of old) params v g.mid g.runs (rest new) z) (sym m.1) g.passed) a s))
       go (inr h) = inr (λ a s. inr (count, g.mid, g.runs, rest new, w, g.counted, (let m = g.many in omega (arith, l, m)), passed_in a s, fails_in a s h))
 
-  -- it was read, and memory is wanted as its locals are added
-  pub going_short : (more : ℕ) (ty : ValType) → done < count → Tells nexts told (IsRunOf j.types) new next w x (Ok (more, ty)) → RefusesRuns told params old i.types v x faults.Memory
+  -- it was read, and memory is wanted to keep it
+  pub going_short : (more : ℕ) (ty : ValType) → done < count → Tells nexts told (IsRunOf types) new next w x (Ok (more, ty)) → RefusesRuns told params old types v x faults.Memory
   going_short more ty l t =
       let run = t.value.0 in
       let few : length (g.runs ++ run ∷ []) ≤ count = (let m = g.many in let n = length-append g.runs (run ∷ []) in omega (arith, l, m, n)) in
       inl (refl, λ a s. inr (count, g.mid, g.runs ++ run ∷ [], rest next, g.counted, few, in_words (g.runs ++ run ∷ []) (rest next) x (passed_on more ty t) a s))
+
+-- all were read, and memory is wanted as their locals are added
+pub reads_short : {V : Type 0} (told : Telling Run V) (params : ℕ) (old new : Cursor) (types : List ℕ) (v w : V) (own : List Run) (total : ℕ) → ReadsRuns told params old new types v w own total → RefusesRuns told params old types v w faults.Memory
+reads_short told params old new types v w own total r = inl (refl, λ a s. let p = r.passed a s in inr (length r.runs, p.0, r.runs, rest new, p.1, (let z : length r.runs ≤ length r.runs = omega arith in z), p.2))
 
 -- ---- the count itself is refused
 

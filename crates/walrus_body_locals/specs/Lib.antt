@@ -1,5 +1,7 @@
 pub mod Calls
+pub mod Classes
 pub mod Told
+pub mod Named
 pub mod Locals
 -- Passed on to crates above, which then list this one alone.
 pub use Rattle.walrus_body_nesting.specs.walrus_body_env as walrus_body_env

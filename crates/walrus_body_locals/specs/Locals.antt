@@ -1,5 +1,5 @@
 -- The locals that a body declares: what is read, and what is added.
-use Rattle.std.specs.Prelude.{◌≡◌, ◌⊎◌, ◌<◌, ◌≤◌, ℕ, suc, ◌+◌, ◌==◌, nat_le, List, [], ◌∷◌, ◌++◌, length, map, fold, Option, None, Ok, Err, if◌then◌else◌}
+use Rattle.std.specs.Prelude.{◌≡◌, ◌⊎◌, ◌<◌, ◌≤◌, ℕ, suc, ◌+◌, ◌==◌, nat_le, Bool, true, false, List, [], ◌∷◌, ◌++◌, length, map, fold, Option, None, Ok, Err, if◌then◌else◌}
 use Rattle.wasm_features.specs.declared.WasmFeatures.{WasmFeatures}
 use Rattle.wasm_reader.specs.Cursor.{Cursor, rest, end_of}
 use Rattle.wasm_ref_types.specs.declared.value.ValType.{ValType as Written}
@@ -9,6 +9,7 @@ use Rattle.walrus_pairing.specs.declared.error.PairError.{PairError}
 use Rattle.walrus_pairing.specs.declared.error.PairError.TheVariants as errors
 use Rattle.walrus_pairing.specs.walrus_items.declared.local.Local.{Local}
 use Rattle.walrus_index_maps.specs.Maps.{Ids}
+use Rattle.walrus_index_maps.specs.Runs.{nowhere}
 use Rattle.wasm_formats.specs.declared.fault.Limited.TheVariants as limits
 use Rattle.wasm_formats.specs.declared.fault.Form.TheVariants as unsupported
 use Rattle.wasm_formats.specs.declared.fault.Space.TheVariants as spaces
@@ -26,6 +27,7 @@ use Rattle.walrus_body_nesting.specs.walrus_body_env.declared.error.BodyError.{B
 use Rattle.walrus_body_nesting.specs.walrus_body_env.declared.error.BodyError.TheVariants.{Memory}
 use Rattle.walrus_body_locals.specs.Calls.{IsFaultOf}
 use Rattle.walrus_body_locals.specs.Told.{Telling, Pass, Fails}
+use Rattle.walrus_body_locals.specs.Named.{AreKept, kept_count, kept_of}
 
 -- ---- what is read
 
@@ -78,6 +80,16 @@ FailRuns {V} told run params end v bytes w e =
     × Pass next_total (λ total. (run total).parse) told end params v mid runs later u
     × Fails (run (fold next_total params runs)).parse told end u later w e)
 
+-- these runs were read, behind so many parameters: as they are in the file, and with ids in the place of the names of types; there are so many locals
+-- with the parameters
+pub record ReadsRuns {V : Type 0} (told : Telling Run V) (params : ℕ) (old new : Cursor) (types : List ℕ) (v w : V) (own : List Run) (total : ℕ) : Type 0 where
+  pub runs : List Run
+  pub read : (a : Around) → IsSeen old.window.features types a → (grammar.runs a params).parse (rest old) ≡ Ok (runs, rest new)
+  pub passed : (a : Around) → IsSeen old.window.features types a → PassRuns told (grammar.run a) params (end_of old) v (rest old) runs (rest new) w
+  pub own_are : declared own ≡ map (renamed_value (at types)) (declared runs)
+  pub total_is : total ≡ params + length (declared own)
+  pub few : (total ≡ params) ⊎ (total ≤ 50000)
+
 -- ---- what is added
 
 abbrev pub locals_from : ℕ → List ValType → List Local
@@ -100,15 +112,35 @@ pub record Adds (function : ℕ) (tys : List ValType) (ls ms : List Local) (i j 
   pub added : ms ≡ ls ++ locals_from (length ls) tys
   pub named : j ≡ with_locals function (ids_from (length ls) tys) i
 
--- what a refusal leaves: some locals were added to the module, and the next indices of the function name them, all or all but the last
+-- ids from this one on for those that are kept; the others have none
+abbrev pub kept_ids : ℕ → List Bool → List ℕ
+kept_ids id [] = []
+kept_ids id (true ∷ ks) = id ∷ kept_ids (suc id) ks
+kept_ids id (false ∷ ks) = nowhere ∷ kept_ids id ks
+
+-- locals of these types were declared: those that are kept were added to the module, and the next indices of the function name them, or none
+pub record AddsKept (function : ℕ) (kept : List Bool) (tys : List ValType) (ls ms : List Local) (i j : Ids) : Type 0 where
+  pub many : length kept ≡ length tys
+  pub added : ms ≡ ls ++ locals_from (length ls) (kept_of kept tys)
+  pub named : j ≡ with_locals function (kept_ids (length ls) kept) i
+
+-- of locals of these types, behind so many parameters, those were added that the operators of these bytes name, or all, where all are wanted
+pub record Chooses (features : WasmFeatures) (function params : ℕ) (bytes : List ℕ) (tys : List ValType) (ls ms : List Local) (i j : Ids) : Type 0 where
+  pub kept : List Bool
+  pub are_kept : AreKept features i.all_locals params (length tys) bytes kept
+  pub adds : AddsKept function kept tys ls ms i j
+
+-- what a refusal leaves: some locals were added to the module, and the next indices of the function name them, all or all but the last, or none
 pub record Leaves (function : ℕ) (ls ms : List Local) (i j : Ids) : Type 0 where
   pub tys : List ValType
   pub ids : List ℕ
   pub added : ms ≡ ls ++ locals_from (length ls) tys
   pub named : j ≡ with_locals function ids i
-  pub unnamed : List ℕ
-  pub all : ids ++ unnamed ≡ ids_from (length ls) tys
-  pub few : length unnamed ≤ 1
+  pub kept : List Bool
+  pub ids_are : ids ≡ kept_ids (length ls) kept
+  pub unnamed : ℕ
+  pub all : kept_count kept + unnamed ≡ length tys
+  pub few : unnamed ≤ 1
 
 -- ---- the whole
 
@@ -117,7 +149,9 @@ pub record Declares {V : Type 0} (told : Telling Run V) (function params : ℕ) 
   pub runs : List Run
   pub read : (a : Around) → IsSeen old.window.features types a → (grammar.runs a params).parse (rest old) ≡ Ok (runs, rest new)
   pub passed : (a : Around) → IsSeen old.window.features types a → PassRuns told (grammar.run a) params (end_of old) v (rest old) runs (rest new) w
-  pub adds : Adds function (map (renamed_value (at types)) (declared runs)) ls ms i j
+  pub kept : List Bool
+  pub are_kept : AreKept old.window.features i.all_locals params (length (declared runs)) (rest new) kept
+  pub adds : AddsKept function kept (map (renamed_value (at types)) (declared runs)) ls ms i j
 
 -- in a file with these types, the locals are refused so; or memory is wanted behind some runs
 abbrev pub RefusesRuns : {V : Type 0} → Telling Run V → ℕ → Cursor → List ℕ → V → V → BodyError → Type 0

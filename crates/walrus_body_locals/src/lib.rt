@@ -1,9 +1,12 @@
 //! The locals that bodies declare are read (Core Specification, binary format: code section).
 #![tactic(auto)]
 
+mod class;
+mod named;
 mod runs;
 mod value_types;
 
+pub use class::{Class, next_class};
 pub use runs::read_locals;
 
 // Passed on to crates above, which then list this one alone.

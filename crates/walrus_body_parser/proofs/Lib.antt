@@ -4,7 +4,6 @@ pub mod Takes
 mod Reading
 mod Looping
 mod Classes
-mod Rows
 mod Running
 -- Passed on to crates above, which then list this one alone.
 pub use Rattle.walrus_body_locals.proofs as walrus_body_locals

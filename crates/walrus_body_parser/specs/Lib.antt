@@ -1,4 +1,3 @@
-pub mod Classes
 pub mod Points
 pub mod Changes
 pub mod Trees

@@ -1,7 +1,6 @@
 //! Bodies are read: from bytes to trees of instructions in normal form (Core Specification, binary format: code section).
 #![tactic(auto)]
 
-mod class;
 mod handlers;
 mod operators;
 mod steps;

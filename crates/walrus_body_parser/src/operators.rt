@@ -15,10 +15,10 @@ ghost use Rattle.walrus_body_parser.specs.Changes.{ReadsNext, ReadsOn, entry_of}
 ghost use Rattle.walrus_body_parser.specs.Points.{IsRefusedAs};
 ghost use Rattle.walrus_body_parser.specs.Trees.{Follows, validating};
 
-use crate::class::{Class, next_class};
 use crate::steps::change;
 use std::alloc::Global;
 use walrus_body_locals::body_env::{BodyError, Validator};
+use walrus_body_locals::{Class, next_class};
 use walrus_body_operands::body_stack::Stack;
 use walrus_body_operands::{Scope, instr_on, opened_type, opener_of, part_of, step_of};
 use walrus_instr::InstrLocId;

@@ -1,14 +1,11 @@
 -- A module is written section by section.
-use Rattle.std.specs.Prelude.{ℕ, ◌≡◌, ◌<◌, ◌^◌, ◌⊎◌, Bool, true, false, List, [], ◌++◌, length, map, Option, Result, Ok, Err, OnOk, refl}
-use Rattle.std.specs.List.Sorted.{IsPermutation}
-use Rattle.std.proofs.Common.{sym, subst, inl, inr}
+use Rattle.std.specs.Prelude.{ℕ, ◌+◌, ◌≡◌, ◌<◌, ◌^◌, ◌⊎◌, Bool, true, false, List, ◌++◌, length, map, Option, Result, Ok, Err, OnOk, refl}
+use Rattle.std.proofs.Common.{ap, sym, ◌∙◌, subst, inl, inr}
 use Rattle.wasm_grammar.specs.Modules.{Function}
 use Rattle.wasm_operators.proofs.Keeps.{keeps_all}
-use Rattle.walrus_operators.specs.Appended.{Keeps}
 use Rattle.walrus_errors.specs.declared.error.ModuleError.{ModuleError}
 use Rattle.walrus_errors.specs.declared.error.ModuleError.TheVariants.{Memory}
 use Rattle.walrus_index_maps.specs.Maps.{Indices}
-use Rattle.walrus_index_maps.specs.Runs.{run_from}
 use Rattle.walrus_module.specs.walrus_body_writer.walrus_pairing.Looks.{Look}
 use Rattle.walrus_payload_writers.specs.Writes as payloads
 use Rattle.walrus_types.specs.Emission.{IsEmission}
@@ -16,9 +13,8 @@ use Rattle.walrus_types.specs.Inverse.{AreInverse}
 use Rattle.walrus_types.specs.Table.{Table}
 use Rattle.walrus_types.specs.declared.emit.EmittedTypes.{EmittedTypes}
 use Rattle.walrus_types.specs.walrus_forms.Records.{type_group}
-use Rattle.walrus_emit_numbers.specs.declared.facts.BodyFacts.{BodyFacts}
 use Rattle.walrus_emit_parts.specs.Due.{Due, IsTooMany, Lacks, Refused, Writes, written}
-use Rattle.walrus_emit_parts.proofs.Lemmas.{nothing, puts, refused_memory, writes_on, written_size}
+use Rattle.walrus_emit_parts.proofs.Lemmas.{nothing, puts, refused_memory, size_is, writes_on, written_size}
 use Rattle.walrus_emit_due.specs.FunctionTypes.{function_types}
 use Rattle.walrus_emit.specs.Settled.{AreEmitted}
 use Rattle.walrus_emit.specs.Whole.{if_asked, types}
@@ -75,3 +71,9 @@ pub code_then : (a b : Due) (due : Indices → Due) (i j : Indices) (old mid mor
 code_then a b due i j old mid more new (Ok x) is first second w =
     writes_on old mid new a (b ++ due j) (Ok x) first (writes_on mid more new b (due j) (Ok x) second (subst (λ (k : Indices). written new ≡ written more ++ due k) is w))
 code_then a b due i j old mid more new (Err e) is first second w = tt
+
+-- what stands behind a part begins so much further on
+pub begins_behind : (place_of : ℕ → ℕ) (a : Due) (old mid : List ℕ) (begin : ℕ) (r : Result (Unit {0}) ModuleError) → written mid ≡ written old ++ a → begin ≡ place_of (length mid)
+    → OnOk r (begin ≡ place_of (length old + length a))
+begins_behind place_of a old mid begin (Ok x) first h = h ∙ ap place_of (size_is old mid a first)
+begins_behind place_of a old mid begin (Err e) first h = tt

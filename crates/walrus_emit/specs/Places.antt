@@ -5,6 +5,7 @@ use Rattle.std.specs.Ordering.{nat_cmp, ordering_then}
 use Rattle.std.specs.declared.cmp.Ordering.{Ordering}
 use Rattle.std.specs.declared.ops.Range.{Range}
 use Rattle.walrus_instr.specs.declared.seq.InstrLocId.{InstrLocId}
+use Rattle.walrus_sections.specs.declared.transform.CodeTransform.{CodeTransform}
 
 -- an operator of the location stands at this place, and none of it further on
 pub record IsLastPlace (locations : List (ℕ × ℕ)) (location at : ℕ) : Type 0 where
@@ -30,6 +31,12 @@ range_from start r = (r.0, record { start = start + r.1.start; end = start + r.1
 pub record AreRanges (ranges : List (ℕ × Range ℕ)) (start : ℕ) (found : List (ℕ × Range ℕ)) : Type 0 where
   pub same : IsPermutation (map (range_from start) ranges) found
   pub rising : IsSortedByKey (λ (r : ℕ × Range ℕ). r.0) nat_cmp found
+
+-- where the operators of these locations and these bodies stand, which are counted from there
+pub record Tells (locations : List (ℕ × ℕ)) (ranges : List (ℕ × Range ℕ)) (start : ℕ) (transform : CodeTransform) : Type 0 where
+  pub map : ArePlaces locations start transform.instruction_map.items
+  pub bodies : AreRanges ranges start transform.function_ranges.items
+  pub begins : transform.code_section_start ≡ start
 
 -- ---- how they are found: pairs of one location stand together, the last place last
 

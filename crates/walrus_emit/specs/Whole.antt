@@ -2,6 +2,7 @@
 -- named by their numbers; locals have theirs once the bodies are written.
 use Rattle.std.specs.Prelude.{ℕ, Bool, true, false, List, [], ◌∷◌, ◌++◌, length, map, Option}
 use Rattle.std.specs.List.{list_any}
+use Rattle.std.specs.declared.ops.Range.{Range}
 use Rattle.wasm_formats.specs.declared.fault.Limited.TheVariants.{Types}
 use Rattle.wasm_grammar.specs.Modules.{Module as Meant}
 use Rattle.walrus_arena.specs.Arena.{Arena}
@@ -16,6 +17,8 @@ use Rattle.walrus_sections.specs.declared.section.Section.{Section}
 use Rattle.walrus_types.specs.declared.emit.EmittedTypes.{EmittedTypes}
 use Rattle.walrus_types.specs.walrus_forms.Records.{type_group}
 use Rattle.walrus_emit_code.specs.Code.{bodies_numbers, code, facts_at}
+use Rattle.walrus_emit_code.specs.Places as places
+use Rattle.walrus_emit_code.specs.Places.{code_start, if_kept}
 use Rattle.walrus_emit_customs.specs.Customs.{customs}
 use Rattle.walrus_emit_customs.specs.Names.{names_due}
 use Rattle.walrus_emit_numbers.specs.Numbers.{functions_at, numbers_of}
@@ -84,6 +87,14 @@ module _ {B : Type 0} (input : Module B) (facts : List BodyFacts) (order : List 
   abbrev pub with_bodies : Indices → Indices
   with_bodies i = bodies_numbers input.locals input.funcs i (facts_at facts order)
 
+  -- where the operators of bodies stand that have a location, behind the beginning of the code section's contents, if places are kept
+  abbrev pub locations : Indices → List (ℕ × ℕ)
+  locations i = if_kept input.config.preserve_code_transform (places.locations input.locals input.funcs i (facts_at facts order))
+
+  -- and the bodies
+  abbrev pub ranges : Indices → List (ℕ × Range ℕ)
+  ranges i = places.ranges input.locals input.funcs i (facts_at facts order)
+
   -- what stands behind code, where items and locals have these numbers
   abbrev pub closing : EmittedTypes → Indices → Due
   closing emitted i = behind_code input (number_of i 0) (names_due (parts input) emitted (facts_at facts order) i)
@@ -115,3 +126,7 @@ module _ {B : Type 0} (own_name : B → List ℕ) (contents : B → Indices → 
     -- and the other custom sections, as they are once a program's own were told where code stands
     abbrev pub whole : Arena (Section B) → Due
     whole told = standard (numbers input facts order emitted) ++ sections false (with_bodies input facts order (numbers input facts order emitted)) told
+
+    -- where the contents of the code section begin; 0 where there is no body
+    abbrev pub code_begin : Indices → ℕ
+    code_begin i = code_start input.locals input.funcs i 0 (length (opening i)) (facts_at facts order)

@@ -1,7 +1,7 @@
 //! The parts of a module, one behind another.
 #![tactic(auto, using(walrus_emit_parts::proofs::Lemmas::writes_on, walrus_emit_parts::proofs::Lemmas::refused_front, crate::proofs::WholeLemmas::refused_later))]
 
-ghost use Rattle.std.specs.Prelude.{◌≡◌, ◌++◌, IfOk, OnOk};
+ghost use Rattle.std.specs.Prelude.{◌≡◌, ◌+◌, ◌++◌, length, IfOk, OnOk};
 ghost use Rattle.walrus_customs.specs.Producers.{fields_of};
 ghost use Rattle.walrus_index_maps.specs.Maps.{no_indices};
 ghost use Rattle.walrus_index_maps.specs.Views.{indices};
@@ -11,6 +11,7 @@ ghost use Rattle.walrus_module.specs.walrus_body_writer.walrus_pairing.Looks.{nu
 ghost use Rattle.walrus_payload_writers.specs.Producers.{producers_section};
 ghost use Rattle.walrus_emit_code.specs.Code.{bodies_numbers, facts_at};
 ghost use Rattle.walrus_emit_code.specs.Code as code;
+ghost use Rattle.walrus_emit_code.specs.Places.{code_start};
 ghost use Rattle.walrus_emit_numbers.specs.Numbers.{functions_at};
 ghost use Rattle.walrus_emit_numbers.specs.Order.{AreWithin};
 ghost use Rattle.walrus_emit_parts.specs.Due.{Writes, written};
@@ -179,6 +180,9 @@ fn write_code<B>(
     requires { AreWithin facts.now order.now }
     ensures numbered { OnOk result (indices emission.new.indices ≡ due.with_bodies input.now facts.now order.now (indices emission.old.indices)) }
     ensures written { OnOk result (written emission.new.bytes.items ≡ written emission.old.bytes.items ++ code.code input.now.locals input.now.funcs (indices emission.old.indices) (facts_at facts.now order.now)) }
+    ensures located { OnOk result (emission.new.locations.items ≡ emission.old.locations.items ++ due.locations input.now facts.now order.now (indices emission.old.indices)) }
+    ensures ranged { OnOk result (emission.new.ranges.items ≡ emission.old.ranges.items ++ due.ranges input.now facts.now order.now (indices emission.old.indices)) }
+    ensures begins { OnOk result (emission.new.code_section_start ≡ code_start input.now.locals input.now.funcs (indices emission.old.indices) emission.old.code_section_start (length emission.old.bytes.items) (facts_at facts.now order.now)) }
 {
     let code = Code {
         locals: &input.locals,
@@ -271,6 +275,9 @@ pub(crate) fn write_all<B: CustomSection>(
     requires { AreWithin facts.now order.now }
     ensures numbered { OnOk result (indices emission.new.indices ≡ due.with_bodies input.now facts.now order.now (indices emission.old.indices)) }
     ensures written { OnOk result (written emission.new.bytes.items ≡ written emission.old.bytes.items ++ due.standard B.own_name B.contents input.now facts.now order.now types.now (indices emission.old.indices)) }
+    ensures located { OnOk result (emission.new.locations.items ≡ emission.old.locations.items ++ due.locations input.now facts.now order.now (indices emission.old.indices)) }
+    ensures ranged { OnOk result (emission.new.ranges.items ≡ emission.old.ranges.items ++ due.ranges input.now facts.now order.now (indices emission.old.indices)) }
+    ensures begins { OnOk result (emission.new.code_section_start ≡ code_start input.now.locals input.now.funcs (indices emission.old.indices) emission.old.code_section_start (length emission.old.bytes.items + length (due.opening B.own_name B.contents input.now facts.now order.now types.now (indices emission.old.indices))) (facts_at facts.now order.now)) }
 {
     let out = &mut emission.bytes;
     write_opening(alloc, out, input, types, facts, order, &emission.indices)?;

@@ -1,7 +1,7 @@
 //! Parts of a module that are written as a section each.
 #![tactic(auto, using(crate::proofs::KeepsLemmas::kept, crate::proofs::KeepsLemmas::payload_kept, crate::proofs::WholeLemmas::payload_written, crate::proofs::WholeLemmas::wrote_types))]
 
-ghost use Rattle.std.specs.Prelude.{◌≡◌, ◌++◌, OnOk};
+ghost use Rattle.std.specs.Prelude.{◌≡◌, ◌++◌, length, OnOk};
 ghost use Rattle.walrus_customs.specs.Producers.{fields_of};
 ghost use Rattle.walrus_index_maps.specs.Views.{indices};
 ghost use Rattle.walrus_meaning.specs.Meaning.{means, own_element, own_export, own_global, own_memory, own_segment, own_table, own_tag, slots_of};
@@ -11,6 +11,8 @@ ghost use Rattle.walrus_operators.specs.Appended.{Keeps};
 ghost use Rattle.walrus_payload_writers.specs.Producers.{producers_section};
 ghost use Rattle.walrus_emit_code.specs.Code as code;
 ghost use Rattle.walrus_emit_code.specs.Code.{bodies_numbers, facts_at};
+ghost use Rattle.walrus_emit_code.specs.Places as places;
+ghost use Rattle.walrus_emit_code.specs.Places.{if_kept};
 ghost use Rattle.walrus_emit_parts.specs.Due.{Writes, written};
 ghost use Rattle.walrus_emit_due.specs.Items as items;
 ghost use Rattle.walrus_emit_due.specs.Elements.{elements};
@@ -139,6 +141,9 @@ impl Emit for ModuleFunctions {
         ensures keeps { Keeps cx.old.emission.bytes.items cx.new.emission.bytes.items }
         ensures numbered { OnOk result (indices cx.new.emission.indices ≡ bodies_numbers cx.old.«module».now.locals self.now (indices cx.old.emission.indices) (facts_at cx.old.facts.now cx.old.order.items)) }
         ensures written { OnOk result (written cx.new.emission.bytes.items ≡ written cx.old.emission.bytes.items ++ code.code cx.old.«module».now.locals self.now (indices cx.old.emission.indices) (facts_at cx.old.facts.now cx.old.order.items)) }
+        ensures located { OnOk result (cx.new.emission.locations.items ≡ cx.old.emission.locations.items ++ if_kept cx.old.«module».now.config.preserve_code_transform (places.locations cx.old.«module».now.locals self.now (indices cx.old.emission.indices) (facts_at cx.old.facts.now cx.old.order.items))) }
+        ensures ranged { OnOk result (cx.new.emission.ranges.items ≡ cx.old.emission.ranges.items ++ places.ranges cx.old.«module».now.locals self.now (indices cx.old.emission.indices) (facts_at cx.old.facts.now cx.old.order.items)) }
+        ensures begins { OnOk result (cx.new.emission.code_section_start ≡ places.code_start cx.old.«module».now.locals self.now (indices cx.old.emission.indices) cx.old.emission.code_section_start (length cx.old.emission.bytes.items) (facts_at cx.old.facts.now cx.old.order.items)) }
     {
         let code = Code {
             locals: &cx.module.locals,

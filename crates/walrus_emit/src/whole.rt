@@ -6,8 +6,9 @@ ghost use Rattle.walrus_refusals.specs.Sound.{IsRefused, IsSound};
 ghost use Rattle.walrus_emit_parts.specs.Due.{written};
 ghost use Rattle.walrus_emit.specs.Left.{LeavesDeclared};
 ghost use Rattle.walrus_emit.specs.Listed.{listed};
+ghost use Rattle.walrus_emit.specs.Places.{Tells};
 ghost use Rattle.walrus_emit.specs.Whole as due;
-ghost use Rattle.walrus_emit.specs.Written.{IsStandard, IsWritten};
+ghost use Rattle.walrus_emit.specs.Written.{IsEmitted, IsStandard, IsTransformed, IsWritten};
 
 use crate::checks::check_module;
 use crate::contents::write_all;
@@ -29,7 +30,6 @@ pub type Emitted = Emission;
 const MAX_FILE: usize = 1 << 30;
 
 // All sections but the other custom ones.
-#[tactic(auto, using(crate::proofs::WrittenLemmas::is_standard))]
 fn emit_standard<'a, B: CustomSection>(
     alloc: Global,
     input: &'a Module<B>,
@@ -45,7 +45,9 @@ fn emit_standard<'a, B: CustomSection>(
 }
 
 // Where code stands.
-fn code_transform(alloc: Global, emission: &Emission) -> Result<CodeTransform> {
+fn code_transform(alloc: Global, emission: &Emission) -> Result<CodeTransform>
+    ensures { IfOk result (Tells emission.now.locations.items emission.now.ranges.items emission.now.code_section_start) }
+{
     let locations = emission.locations.as_slice();
     let ranges = emission.ranges.as_slice();
     let start = emission.code_section_start;
@@ -85,6 +87,7 @@ fn emit_last<B: CustomSection>(
 ) -> Result<Emitted>
     ensures small { IfOk result (λ emitted. length emitted.bytes.items ≤ 2 ^ 30) }
     ensures written { IfOk result (λ emitted. written emitted.bytes.items ≡ written emission.bytes.items ++ due.sections B.own_name B.contents false (indices emission.indices) input.now.customs) }
+    ensures rest { IfOk result (λ emitted. emitted ≡ record emission { bytes = emitted.bytes }) }
 {
     let bytes = &mut emission.bytes;
     write_sections(alloc, bytes, &input.customs, false, &emission.indices)?;
@@ -101,12 +104,13 @@ fn emit_last<B: CustomSection>(
 ///
 /// `SectionRefused` where a section of a program's own refuses to say what is in it; `OutputLimit` where a limit of the standard's readers
 /// is passed; want of memory. The module is as it was, but for at most one declared segment, and sections that were told where code stands.
-#[tactic(auto, using(crate::proofs::DeclaredLemmas::leaves, crate::proofs::DeclaredLemmas::leaves_it, crate::proofs::WrittenLemmas::is_written))]
+#[tactic(auto, using(crate::proofs::DeclaredLemmas::leaves, crate::proofs::DeclaredLemmas::leaves_it))]
 pub fn emit_sound<B: CustomSection>(alloc: Global, input: &mut Module<B>) -> Result<Emitted>
     ensures small { IfOk result (λ emitted. length emitted.bytes.items ≤ 2 ^ 30) }
     ensures left { LeavesDeclared (parts input.old) (parts input.new) }
     ensures untold { input.old.config.preserve_code_transform ≡ false → input.new.customs ≡ input.old.customs }
     ensures written { IfOk result (λ emitted. IsWritten B.own_name B.contents input.old input.new emitted.bytes.items) }
+    ensures stands { IfOk result (λ emitted. IsEmitted B.own_name B.contents input.old input.new emitted) }
 {
     let found = facts_of(alloc, &input.funcs)?;
     let facts = found.as_slice();
@@ -154,6 +158,7 @@ impl<B: CustomSection> EmitWasm for Module<B> {
         ensures left { LeavesDeclared (parts self.old) (parts self.new) }
         ensures untold { self.old.config.preserve_code_transform ≡ false → self.new.customs ≡ self.old.customs }
         ensures written { IfOk result (λ answer. IsWritten B.own_name B.contents self.old self.new answer.0.items) }
+        ensures transformed { IfOk result (λ answer. IsTransformed B.own_name B.contents self.old self.new answer.0.items answer.1) }
         ensures refused { IfErr result (λ e. (IsRefused (parts self.old) (listed (parts self.old)) e × (self.new ≡ self.old)) ⊎ IsSound (parts self.old) (listed (parts self.old))) }
     {
         check_module(alloc, &*self)?;

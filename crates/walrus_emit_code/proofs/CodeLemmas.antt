@@ -1,13 +1,12 @@
 -- The code section is written body by body.
-use Rattle.std.specs.Prelude.{ℕ, zero, suc, ◌+◌, ◌≡◌, ◌≤◌, ◌<◌, List, [], ◌∷◌, ◌++◌, length, take, drop, map, slice_get, slice_index_or, Option, Some, None, Result, Ok, Err, OnOk, All, refl}
-use Rattle.std.specs.List.{fold}
+use Rattle.std.specs.Prelude.{ℕ, zero, suc, ◌+◌, ◌≡◌, ◌≤◌, ◌<◌, List, [], ◌∷◌, ◌++◌, length, take, drop, slice_get, slice_index_or, Option, Some, None, Result, Ok, Err, OnOk, All, refl}
 use Rattle.std.proofs.Common.{ap, sym, ◌∙◌, subst, append_assoc, append-nil, arith, le-ltb}
 use Rattle.std.proofs.lemmas.List.{length-append, length-drop, take-append-drop}
 use Rattle.walrus_operators.specs.Appended.{Keeps}
 use Rattle.wasm_formats.specs.declared.fault.Limited.{Limited}
 use Rattle.wasm_formats.specs.declared.fault.Limited.TheVariants.{Body, Locals}
 use Rattle.wasm_operators.specs.Operators.{Seen}
-use Rattle.wasm_operators.specs.Bytes.{operator_bytes, unsigned_bytes}
+use Rattle.wasm_operators.specs.Bytes.{unsigned_bytes}
 use Rattle.wasm_operators.proofs.Keeps.{keeps_all, keeps_front, keeps_on}
 use Rattle.walrus_arena.specs.Arena.{Arena, item_at}
 use Rattle.walrus_errors.specs.declared.error.ModuleError.{ModuleError}
@@ -26,7 +25,7 @@ use Rattle.walrus_local_function.specs.declared.local_function.LocalFunction.{Lo
 use Rattle.walrus_module_items.specs.declared.function.Function.{Function}
 use Rattle.walrus_module_items.specs.declared.function.FunctionKind.TheVariants.{Local as WithBody}
 use Rattle.walrus_emit_parts.specs.Due.{Due, Writes, limited, number, section, sized, written}
-use Rattle.walrus_emit_parts.proofs.Lemmas.{grows, keeps_written, nothing, put_before, puts, size_is, written_both, written_size}
+use Rattle.walrus_emit_parts.proofs.Lemmas.{keeps_written, nothing, put_before, puts, size_is, written_both, written_size}
 use Rattle.walrus_emit_numbers.specs.declared.facts.BodyFacts.{BodyFacts}
 use Rattle.walrus_emit_numbers.specs.Order.{AreWithin}
 use Rattle.walrus_emit_code.specs.Code.{bodies_due, bodies_numbers, body_due, body_numbers, code, contents, declarations, facts_at, local_count, operator_due, operators_due, or_lacking, runs_due, text_due, with_locals}
@@ -178,7 +177,7 @@ module _ (of : List Local) (functions : Arena Function) where
   first_fact : (facts : List BodyFacts) (at : ℕ) (d : BodyFacts) (order : List ℕ) → at < length facts → facts_at facts (at ∷ order) ≡ slice_index_or facts at d ∷ facts_at facts order
   first_fact facts at d order lt = rw (index_get facts at d lt) refl
 
-  facts_next : (facts : List BodyFacts) (order : List ℕ) (i o at : ℕ) (d f : BodyFacts) → i < length order → at ≡ slice_index_or order i o → at < length facts → f ≡ slice_index_or facts at d
+  pub facts_next : (facts : List BodyFacts) (order : List ℕ) (i o at : ℕ) (d f : BodyFacts) → i < length order → at ≡ slice_index_or order i o → at < length facts → f ≡ slice_index_or facts at d
       → facts_at facts (drop i order) ≡ f ∷ facts_at facts (drop (i + 1) order)
   facts_next facts order i o at d f lt is inside fact =
       let one : suc i ≡ i + 1 = omega arith in
@@ -194,7 +193,7 @@ module _ (of : List Local) (functions : Arena Function) where
       one_body (facts_at facts order) (facts_at facts (drop (i + 1) order)) f first now next old mid new
       (subst (λ (l : List BodyFacts). WroteBodies (facts_at facts order) l first now old mid) (facts_next facts order i o at d f lt is inside fact) h) numbers bytes
 
-  drop_past : {A : Type 0} (xs : List A) (i : ℕ) → length xs ≤ i → drop i xs ≡ []
+  pub drop_past : {A : Type 0} (xs : List A) (i : ℕ) → length xs ≤ i → drop i xs ≡ []
   drop_past [] zero le = refl
   drop_past [] (suc i) le = refl
   drop_past (x ∷ xs) zero le = absurd (omega (arith, le))
@@ -213,7 +212,7 @@ module _ (of : List Local) (functions : Arena Function) where
   get_there (x ∷ xs) zero lt = (x, refl)
   get_there (x ∷ xs) (suc i) lt = get_there xs i (omega (arith, lt))
 
-  facts_there : (facts : List BodyFacts) (order : List ℕ) → All (λ (at : ℕ). at < length facts) order → length (facts_at facts order) ≡ length order
+  pub facts_there : (facts : List BodyFacts) (order : List ℕ) → All (λ (at : ℕ). at < length facts) order → length (facts_at facts order) ≡ length order
   facts_there facts [] h = refl
   facts_there facts (at ∷ order) h =
       let there = get_there facts at (h 0 at (omega arith)) in

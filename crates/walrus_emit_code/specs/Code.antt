@@ -14,7 +14,7 @@ use Rattle.walrus_instr.specs.declared.seq.InstrSeq.{InstrSeq}
 use Rattle.walrus_errors.specs.declared.error.ModuleError.TheVariants.{DeadReference, NotLinked}
 use Rattle.walrus_body_writer.specs.walrus_body_env.Refusals.{module_error}
 use Rattle.walrus_body_writer.specs.walrus_pairing.Looks.{Look, Or, number_of}
-use Rattle.walrus_body_writer.specs.walrus_tree.Text.{Piece, operators}
+use Rattle.walrus_body_writer.specs.walrus_tree.Text.{operators}
 use Rattle.walrus_body_writer.specs.walrus_tree.walrus_builder.Functions.{seqs_of}
 use Rattle.walrus_body_writer.specs.Refusals.{fault_of}
 use Rattle.walrus_body_writer.specs.Spelled.{Text, written as written_piece}

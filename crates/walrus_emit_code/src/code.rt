@@ -1,5 +1,5 @@
 //! The bodies of functions (Core Specification, binary format: code section).
-ghost use Rattle.std.specs.Prelude.{◌≡◌, ◌≤◌, ◌++◌, [], ◌∷◌, length, take, drop, OnOk};
+ghost use Rattle.std.specs.Prelude.{◌≡◌, ◌≤◌, ◌+◌, ◌-◌, ◌++◌, [], ◌∷◌, length, take, drop, IfOk, OnOk};
 ghost use Rattle.walrus_index_maps.specs.Views.{indices};
 ghost use Rattle.walrus_operators.specs.Appended.{Keeps};
 ghost use Rattle.wasm_operators.specs.Bytes.{unsigned_bytes};
@@ -7,6 +7,8 @@ ghost use Rattle.walrus_emit_numbers.specs.Order.{AreWithin};
 ghost use Rattle.walrus_emit_parts.specs.Due.{Writes, number, sized, written};
 ghost use Rattle.walrus_emit_code.specs.Code as due;
 ghost use Rattle.walrus_emit_code.specs.Code.{facts_at};
+ghost use Rattle.walrus_emit_code.specs.Places as standing;
+ghost use Rattle.walrus_emit_code.specs.Places.{behind_size, if_kept, located, places_from, places_in, range_of};
 
 use crate::emission::Emission;
 use std::alloc::{AllocError, Global};
@@ -90,6 +92,7 @@ fn write_locals(
     ensures numbered { OnOk result (indices maps.new ≡ due.with_locals body.now.locals.now body.now.facts.now.function body.now.local.now body.now.facts.now.used_locals.items (indices maps.old)) }
     ensures written { OnOk result (written out.new.bytes.items ≡ written out.old.bytes.items ++ due.declarations body.now.locals.now body.now.local.now body.now.facts.now.used_locals.items (indices maps.old)) }
     ensures few { OnOk result (due.local_count ((indices maps.new).locals body.now.facts.now.function) (length body.now.local.now.args.items) body.now.facts.now.used_locals.items ≤ 50000) }
+    ensures same { out.new ≡ record out.old { bytes = out.new.bytes } }
 {
     let function = body.facts.function;
     let used = body.facts.used_locals.as_slice();
@@ -113,6 +116,8 @@ fn write_operators(
 ) -> Result<()>
     ensures written { OnOk result (written out.new.bytes.items ≡ written out.old.bytes.items ++ due.operators_due body.now.facts.now.function body.now.local.now (indices maps.now)) }
     ensures short { OnOk result (length out.new.bytes.items ≤ 7654321) }
+    ensures placed { OnOk result (out.new.places.items ≡ out.old.places.items ++ if_kept out.old.keeps_places (places_from (length out.old.bytes.items) body.now.facts.now.function body.now.local.now (indices maps.now))) }
+    ensures same { OnOk result (out.new.keeps_places ≡ out.old.keeps_places) }
 {
     let function = body.facts.function;
     write_instructions(alloc, body.local.builder(), function, maps, out)?;
@@ -132,6 +137,8 @@ fn write_apart(
 ) -> Result<()>
     ensures numbered { OnOk result (indices maps.new ≡ due.with_locals body.now.locals.now body.now.facts.now.function body.now.local.now body.now.facts.now.used_locals.items (indices maps.old)) }
     ensures written { OnOk result (written out.new.bytes.items ≡ due.contents body.now.locals.now body.now.facts.now.function body.now.local.now body.now.facts.now.used_locals.items (indices maps.old)) }
+    ensures placed { OnOk result (out.new.places.items ≡ if_kept out.old.keeps_places (places_in body.now.locals.now body.now.facts.now.function body.now.local.now body.now.facts.now.used_locals.items (indices maps.old))) }
+    ensures same { OnOk result (out.new.keeps_places ≡ out.old.keeps_places) }
 {
     out.clear();
     write_locals(alloc, maps, body, out)?;
@@ -140,7 +147,9 @@ fn write_apart(
 }
 
 // A place so much behind another. One past 2^32 is past all files.
-fn place_behind(by: usize, at: usize) -> std::result::Result<u32, AllocError> {
+fn place_behind(by: usize, at: usize) -> std::result::Result<u32, AllocError>
+    ensures { IfOk result (λ place. place ≡ by + at) }
+{
     let Some(place) = by.checked_add(at) else {
         return Err(AllocError);
     };
@@ -150,16 +159,34 @@ fn place_behind(by: usize, at: usize) -> std::result::Result<u32, AllocError> {
     }
 }
 
+// Puts the place of an operator behind these, so much further on, if it has a location.
+#[tactic(auto, using(crate::proofs::PlaceLemmas::not_noted, crate::proofs::PlaceLemmas::noted))]
+fn add_location(
+    locations: &mut Vec<(u32, u32)>,
+    location: InstrLocId,
+    at: usize,
+    by: usize,
+) -> std::result::Result<(), AllocError>
+    ensures { OnOk result (locations.new.items ≡ locations.old.items ++ located by ((location, at) ∷ [])) }
+{
+    if location.is_default() {
+        return Ok(());
+    }
+    let place = place_behind(by, at)?;
+    locations.push((location.data(), place))?;
+    Ok(())
+}
+
 // Puts the places of operators with a location behind these, each so much further on.
 fn add_locations(
     locations: &mut Vec<(u32, u32)>,
     places: &[(InstrLocId, usize)],
     by: usize,
-) -> std::result::Result<(), AllocError> {
+) -> std::result::Result<(), AllocError>
+    ensures { OnOk result (locations.new.items ≡ locations.old.items ++ located by places.now) }
+{
     for (location, at) in places {
-        if !location.is_default() {
-            locations.push((location.data(), place_behind(by, *at)?))?;
-        }
+        add_location(locations, *location, *at, by)?;
     }
     Ok(())
 }
@@ -181,11 +208,13 @@ fn add_bytes(bytes: &mut Vec<u8>, more: &[u8]) -> Result<()>
 }
 
 // Puts a body behind what was written, with its size; its places are behind the contents' beginning.
-#[tactic(auto, using(crate::proofs::CodeLemmas::keeps_both, crate::proofs::CodeLemmas::body_written))]
+#[tactic(auto, using(crate::proofs::CodeLemmas::keeps_both, crate::proofs::CodeLemmas::body_written, crate::proofs::PlaceLemmas::body_located, crate::proofs::PlaceLemmas::body_ranged))]
 fn add_body(emission: &mut Emission, function: FunctionId, start: usize, out: &Output) -> Result<()>
     requires { start ≤ length emission.old.bytes.items }
     ensures keeps { Keeps emission.old.bytes.items emission.new.bytes.items }
     ensures written { OnOk result (written emission.new.bytes.items ≡ written emission.old.bytes.items ++ sized (written out.now.bytes.items)) }
+    ensures located { OnOk result (emission.new.locations.items ≡ emission.old.locations.items ++ located (behind_size (length emission.old.bytes.items - start) (written out.now.bytes.items)) out.now.places.items) }
+    ensures ranged { OnOk result (emission.new.ranges.items ≡ emission.old.ranges.items ++ (function, range_of (length emission.old.bytes.items - start) (written out.now.bytes.items)) ∷ []) }
     ensures same { emission.new.indices ≡ emission.old.indices }
 {
     add_number(&mut emission.bytes, out.bytes.len())?;
@@ -209,13 +238,16 @@ fn write_body(
     ensures keeps { Keeps emission.old.bytes.items emission.new.bytes.items }
     ensures numbered { OnOk result (indices emission.new.indices ≡ due.with_locals body.now.locals.now body.now.facts.now.function body.now.local.now body.now.facts.now.used_locals.items (indices emission.old.indices)) }
     ensures written { OnOk result (written emission.new.bytes.items ≡ written emission.old.bytes.items ++ sized (due.contents body.now.locals.now body.now.facts.now.function body.now.local.now body.now.facts.now.used_locals.items (indices emission.old.indices))) }
+    ensures located { OnOk result (emission.new.locations.items ≡ emission.old.locations.items ++ if_kept out.old.keeps_places (located (behind_size (length emission.old.bytes.items - start) (due.contents body.now.locals.now body.now.facts.now.function body.now.local.now body.now.facts.now.used_locals.items (indices emission.old.indices))) (places_in body.now.locals.now body.now.facts.now.function body.now.local.now body.now.facts.now.used_locals.items (indices emission.old.indices)))) }
+    ensures ranged { OnOk result (emission.new.ranges.items ≡ emission.old.ranges.items ++ (body.now.facts.now.function, range_of (length emission.old.bytes.items - start) (due.contents body.now.locals.now body.now.facts.now.function body.now.local.now body.now.facts.now.used_locals.items (indices emission.old.indices))) ∷ []) }
+    ensures same { OnOk result (out.new.keeps_places ≡ out.old.keeps_places) }
 {
     write_apart(alloc, &mut emission.indices, body, out)?;
     add_body(emission, body.facts.function, start, &*out)?;
     Ok(())
 }
 
-#[tactic(auto, using(crate::proofs::CodeLemmas::keeps_itself, crate::proofs::CodeLemmas::body_is, crate::proofs::CodeLemmas::numbers_are))]
+#[tactic(auto, using(crate::proofs::CodeLemmas::keeps_itself, crate::proofs::CodeLemmas::body_is, crate::proofs::CodeLemmas::numbers_are, crate::proofs::PlaceLemmas::locations_are, crate::proofs::PlaceLemmas::ranges_are))]
 fn write_one(
     alloc: Global,
     emission: &mut Emission,
@@ -228,6 +260,9 @@ fn write_one(
     ensures keeps { Keeps emission.old.bytes.items emission.new.bytes.items }
     ensures numbered { OnOk result (indices emission.new.indices ≡ due.body_numbers code.now.locals.now code.now.functions.now (indices emission.old.indices) facts.now) }
     ensures written { OnOk result (written emission.new.bytes.items ≡ written emission.old.bytes.items ++ due.body_due code.now.locals.now code.now.functions.now (indices emission.old.indices) facts.now) }
+    ensures located { OnOk result (emission.new.locations.items ≡ emission.old.locations.items ++ if_kept out.old.keeps_places (standing.body_locations code.now.locals.now code.now.functions.now (indices emission.old.indices) facts.now (length emission.old.bytes.items - start))) }
+    ensures ranged { OnOk result (emission.new.ranges.items ≡ emission.old.ranges.items ++ standing.body_ranges code.now.locals.now code.now.functions.now (indices emission.old.indices) facts.now (length emission.old.bytes.items - start)) }
+    ensures same { OnOk result (out.new.keeps_places ≡ out.old.keeps_places) }
 {
     if !code.functions.contains(facts.function) {
         let space = Space::Function;
@@ -256,6 +291,8 @@ fn write_bodies(alloc: Global, emission: &mut Emission, code: &Code<'_>, start: 
     ensures keeps { Keeps emission.old.bytes.items emission.new.bytes.items }
     ensures numbered { OnOk result (indices emission.new.indices ≡ due.bodies_numbers code.now.locals.now code.now.functions.now (indices emission.old.indices) (facts_at code.now.facts.now code.now.order.now)) }
     ensures written { OnOk result (written emission.new.bytes.items ≡ written emission.old.bytes.items ++ due.bodies_due code.now.locals.now code.now.functions.now (indices emission.old.indices) (facts_at code.now.facts.now code.now.order.now)) }
+    ensures located { OnOk result (emission.new.locations.items ≡ emission.old.locations.items ++ if_kept code.now.keeps_places (standing.bodies_locations code.now.locals.now code.now.functions.now (indices emission.old.indices) (length emission.old.bytes.items - start) (facts_at code.now.facts.now code.now.order.now))) }
+    ensures ranged { OnOk result (emission.new.ranges.items ≡ emission.old.ranges.items ++ standing.bodies_ranges code.now.locals.now code.now.functions.now (indices emission.old.indices) (length emission.old.bytes.items - start) (facts_at code.now.facts.now code.now.order.now)) }
 {
     let order = code.order;
     let mut out = Output::new(alloc, code.keeps_places);
@@ -266,7 +303,7 @@ fn write_bodies(alloc: Global, emission: &mut Emission, code: &Code<'_>, start: 
 }
 
 // The count of bodies, and the bodies.
-#[tactic(auto, using(crate::proofs::CodeLemmas::keeps_both, crate::proofs::CodeLemmas::behind_both, crate::proofs::CodeLemmas::still_there))]
+#[tactic(auto, using(crate::proofs::CodeLemmas::keeps_both, crate::proofs::CodeLemmas::behind_both, crate::proofs::CodeLemmas::still_there, crate::proofs::PlaceLemmas::counted_located, crate::proofs::PlaceLemmas::counted_ranged))]
 fn write_contents(
     alloc: Global,
     emission: &mut Emission,
@@ -278,6 +315,8 @@ fn write_contents(
     ensures keeps { Keeps emission.old.bytes.items emission.new.bytes.items }
     ensures numbered { OnOk result (indices emission.new.indices ≡ due.bodies_numbers code.now.locals.now code.now.functions.now (indices emission.old.indices) (facts_at code.now.facts.now code.now.order.now)) }
     ensures written { OnOk result (written emission.new.bytes.items ≡ written emission.old.bytes.items ++ (number (length code.now.order.now) ++ due.bodies_due code.now.locals.now code.now.functions.now (indices emission.old.indices) (facts_at code.now.facts.now code.now.order.now))) }
+    ensures located { OnOk result (emission.new.locations.items ≡ emission.old.locations.items ++ if_kept code.now.keeps_places (standing.bodies_locations code.now.locals.now code.now.functions.now (indices emission.old.indices) (length emission.old.bytes.items - start + length (number (length code.now.order.now))) (facts_at code.now.facts.now code.now.order.now))) }
+    ensures ranged { OnOk result (emission.new.ranges.items ≡ emission.old.ranges.items ++ standing.bodies_ranges code.now.locals.now code.now.functions.now (indices emission.old.indices) (length emission.old.bytes.items - start + length (number (length code.now.order.now))) (facts_at code.now.facts.now code.now.order.now)) }
 {
     add_number(&mut emission.bytes, code.order.len())?;
     write_bodies(alloc, emission, code, start)?;
@@ -285,12 +324,15 @@ fn write_contents(
 }
 
 // Puts the size of the contents that begin there in front of them.
-#[tactic(auto, using(crate::proofs::CodeLemmas::turned))]
+#[tactic(auto, using(crate::proofs::CodeLemmas::turned, crate::proofs::PlaceLemmas::sealed_begin))]
 fn seal(emission: &mut Emission, start: usize) -> Result<()>
     requires { start ≤ length emission.old.bytes.items }
     ensures keeps { Keeps (take start emission.old.bytes.items) emission.new.bytes.items }
     ensures written { OnOk result (emission.new.bytes.items ≡ take start emission.old.bytes.items ++ (unsigned_bytes (length (drop start emission.old.bytes.items)) ++ drop start emission.old.bytes.items)) }
+    ensures begins { OnOk result (emission.new.code_section_start ≡ start + length (unsigned_bytes (length (drop start emission.old.bytes.items)))) }
     ensures same { emission.new.indices ≡ emission.old.indices }
+    ensures located { emission.new.locations.items ≡ emission.old.locations.items }
+    ensures ranged { emission.new.ranges.items ≡ emission.old.ranges.items }
 {
     let size = emission.bytes.len() - start;
     put_front(&mut emission.bytes, start, size as u64)?;
@@ -313,12 +355,15 @@ fn add_id(bytes: &mut Vec<u8>) -> Result<()>
 ///
 /// `DeadReference` or `NotLinked` where a function is deleted or has no body; `DeadReference` of what has no number; `OutputLimit` where a
 /// limit of the standard's readers is passed; want of memory. What was written before stands at the front.
-#[tactic(auto, using(crate::proofs::CodeLemmas::keeps_both, crate::proofs::CodeLemmas::keeps_itself, crate::proofs::CodeLemmas::sealed, crate::proofs::CodeLemmas::none_written, crate::proofs::CodeLemmas::none_numbered))]
+#[tactic(auto, using(crate::proofs::CodeLemmas::keeps_both, crate::proofs::CodeLemmas::keeps_itself, crate::proofs::CodeLemmas::sealed, crate::proofs::CodeLemmas::none_written, crate::proofs::CodeLemmas::none_numbered, crate::proofs::PlaceLemmas::none_located, crate::proofs::PlaceLemmas::none_ranged, crate::proofs::PlaceLemmas::none_begins))]
 pub fn emit_functions(alloc: Global, emission: &mut Emission, code: &Code<'_>) -> Result<()>
     requires { AreWithin code.now.facts.now code.now.order.now }
     ensures keeps { Keeps emission.old.bytes.items emission.new.bytes.items }
     ensures numbered { OnOk result (indices emission.new.indices ≡ due.bodies_numbers code.now.locals.now code.now.functions.now (indices emission.old.indices) (facts_at code.now.facts.now code.now.order.now)) }
     ensures written { OnOk result (written emission.new.bytes.items ≡ written emission.old.bytes.items ++ due.code code.now.locals.now code.now.functions.now (indices emission.old.indices) (facts_at code.now.facts.now code.now.order.now)) }
+    ensures located { OnOk result (emission.new.locations.items ≡ emission.old.locations.items ++ if_kept code.now.keeps_places (standing.locations code.now.locals.now code.now.functions.now (indices emission.old.indices) (facts_at code.now.facts.now code.now.order.now))) }
+    ensures ranged { OnOk result (emission.new.ranges.items ≡ emission.old.ranges.items ++ standing.ranges code.now.locals.now code.now.functions.now (indices emission.old.indices) (facts_at code.now.facts.now code.now.order.now)) }
+    ensures begins { OnOk result (emission.new.code_section_start ≡ standing.code_start code.now.locals.now code.now.functions.now (indices emission.old.indices) emission.old.code_section_start (length emission.old.bytes.items) (facts_at code.now.facts.now code.now.order.now)) }
 {
     if code.order.is_empty() {
         return Ok(());

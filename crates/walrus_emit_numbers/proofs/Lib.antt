@@ -1,4 +1,5 @@
 mod Counting
 mod Marks
+mod OneOrder
 mod Orders
 mod Zips

@@ -7,7 +7,7 @@ use Rattle.std.proofs.lemmas.List.Elements.{All-cons, All-nil}
 use Rattle.std.proofs.lemmas.List.Sorted.{All-permutation, IsPermutation-map}
 use Rattle.walrus_index_maps.specs.Runs.{run_from}
 use Rattle.walrus_emit_numbers.specs.declared.facts.BodyFacts.{BodyFacts}
-use Rattle.walrus_emit_numbers.specs.Order.{AreWithin, IsOrder, key_at, key_cmp}
+use Rattle.walrus_emit_numbers.specs.Order.{AreWithin, key_at, key_cmp}
 
 run_more : (first n : ℕ) → run_from first (suc n) ≡ run_from first n ++ (first + n) ∷ []
 run_more first zero = ap (λ (k : ℕ). k ∷ []) (omega arith)

@@ -1,5 +1,5 @@
 -- The order in which functions are written.
-use Rattle.std.specs.Prelude.{ℕ, ◌-◌, ◌<◌, ◌^◌, List, length, map, slice_index, All}
+use Rattle.std.specs.Prelude.{ℕ, ◌≡◌, ◌-◌, ◌<◌, ◌^◌, List, length, map, slice_index, All}
 use Rattle.std.specs.List.Sorted.{IsPermutation, IsSorted}
 use Rattle.std.specs.Ordering.{nat_cmp, ordering_then}
 use Rattle.std.specs.declared.cmp.Ordering.{Ordering}
@@ -22,3 +22,7 @@ key_cmp x y = ordering_then (ordering_then (nat_cmp x.0 y.0) (nat_cmp x.1 y.1)) 
 pub record IsOrder (facts : List BodyFacts) (order : List ℕ) : Type 0 where
   pub all : IsPermutation (run_from 0 (length facts)) order
   pub sorted : IsSorted key_cmp (map (key_at facts) order)
+
+-- there is one
+abbrev pub OrdersAreOne : Type 0
+OrdersAreOne = (facts : List BodyFacts) (a b : List ℕ) → IsOrder facts a → IsOrder facts b → a ≡ b

@@ -5,6 +5,7 @@
 mod declared;
 mod facts;
 mod give;
+pub mod laws;
 mod numbers;
 mod order;
 mod turns;

@@ -33,10 +33,11 @@ use Rattle.walrus_body_parser.specs.walrus_body_rules.Sights.{Sight, room}
 use Rattle.walrus_body_parser.specs.walrus_body_rules.Rules.{operator_test}
 use Rattle.walrus_body_parser.specs.walrus_body_rules.Agreeing.{Sees, tests_agree}
 use Rattle.walrus_body_parser.specs.walrus_body_locals.Told.{Telling, Pass}
-use Rattle.walrus_body_parser.specs.walrus_body_locals.Locals.{run_told, IsSeen, RefusesRuns, Adds, ids_from, with_locals}
+use Rattle.walrus_body_parser.specs.walrus_body_locals.Locals.{run_told, IsSeen, RefusesRuns, AddsKept, kept_ids, with_locals}
+use Rattle.walrus_body_parser.specs.walrus_body_locals.Named.{AreOperators}
 use Rattle.walrus_body_parser.specs.Points.{op_told, place_at, ops_from}
 use Rattle.walrus_body_parser.specs.Trees.{Validating, Parser, parser_of, EndOps, SomeOps, FailOps, ReadsTree, RefusesTree}
-use Rattle.walrus_body_parser.proofs.Takes.{operator_takes}
+use Rattle.walrus_body_parser.proofs.walrus_body_locals.Taken.{operator_takes}
 use Rattle.walrus_function_parser.specs.Parsed as parsed
 use Rattle.walrus_function_parser.specs.Parsed.{IsAround, seen_by, Begins, Parses, FailsBehind, IsRefused}
 
@@ -68,6 +69,36 @@ entry_shorter a locals p bytes later x e = go (is_closed p.frames) e
         let k : length z.1 ≡ length y.1 = ap (λ (w : Seen × List ℕ). length w.1) same in
         let n : length y.1 ≡ length later = ap (λ (w : (ℕ × Seen) × List ℕ). length w.1) (done_is ((p.place + (length bytes - length y.1), y.0), y.1) (x, later) q) in
         omega (arith, l, k, n)))
+
+-- ---- what is parsed is what was read
+
+operator_value : (features : WasmFeatures) (bytes later : List ℕ) (op : Seen) → (operator features).parse bytes ≡ Ok (op, later) → operator_at features bytes ≡ Ok (Some op, later)
+operator_value features bytes later op e =
+    step_ok (value_at (operator_at features bytes)) (λ x. told_as (λ o. o) _ (length bytes) x x.0) (op, later) e
+    (λ x p q. let t = told_ok (λ o. o) _ (length bytes) x x.0 (op, later) q in
+    value_ok (operator_at features bytes) x p ∙ ap (λ (o : Option Seen). Ok (o, x.1)) t.0 ∙ ap (λ (l : List ℕ). Ok (Some op, l)) t.1)
+
+entry_value : (features : WasmFeatures) (s : Sight) (p : Point) (bytes later : List ℕ) (x : ℕ × Seen) → parser_of features s p bytes ≡ Ok (x, later) → operator_at features bytes ≡ Ok (Some x.1, later)
+entry_value features s p bytes later x e = go (is_closed p.frames) e
+  where
+    test : Seen → Option Trouble
+    test op = operator_test s p.frames op
+
+    go : (closed : Bool) → (ends_at p.place (either closed (never Nesting) (checked (operator features) test))).parse bytes ≡ Ok (x, later) → operator_at features bytes ≡ Ok (Some x.1, later)
+    go true h = absurd cc
+    go false h =
+        step_ok ((operator features).parse bytes >>= λ y. tested (test y.0) (length bytes) y) (λ y. Ok ((p.place + (length bytes - length y.1), y.0), y.1)) (x, later) h (λ y r q.
+        step_ok ((operator features).parse bytes) (λ z. tested (test z.0) (length bytes) z) y r (λ z u t.
+        let same = (tested_ok (test z.0) (length bytes) z y t).1 in
+        let op : z.0 ≡ x.1 = ap (λ (w : Seen × List ℕ). w.0) same ∙ ap (λ (w : (ℕ × Seen) × List ℕ). w.0.1) (done_is ((p.place + (length bytes - length y.1), y.0), y.1) (x, later) q) in
+        let behind : z.1 ≡ later = ap (λ (w : Seen × List ℕ). w.1) same ∙ ap (λ (w : (ℕ × Seen) × List ℕ). w.1) (done_is ((p.place + (length bytes - length y.1), y.0), y.1) (x, later) q) in
+        operator_value features bytes z.1 z.0 u ∙ ap (λ (o : Seen). Ok (Some o, z.1)) op ∙ ap (λ (l : List ℕ). Ok (Some x.1, l)) behind))
+
+-- operators that pass are those that stand there
+pub pass_stands : {V : Type 0} (features : WasmFeatures) (s : Sight) (told : Telling (ℕ × Seen) V) (end : ℕ) (ops : List (ℕ × Seen)) (p : Point) (v w : V) (bytes : List ℕ) → Pass next_point (parser_of features s) told end p v bytes ops [] w
+    → AreOperators features bytes (map (λ (x : ℕ × Seen). x.1) ops)
+pass_stands features s told end [] p v w bytes h = sym h.0
+pass_stands features s told end (x ∷ ops) p v w bytes h = (h.0, entry_value features s p bytes h.0 x h.2, pass_stands features s told end ops (next_point p x) h.1 w h.0 h.4)
 
 -- ---- what passes is what is parsed
 
@@ -106,9 +137,10 @@ declared_count (r ∷ rs) n =
     let more = declared_count rs (n + r.0) in
     omega (arith, many, one) ∙ more
 
-ids_count : (tys : List ValType) (n : ℕ) → length (ids_from n tys) ≡ length tys
+ids_count : (kept : List Bool) (n : ℕ) → length (kept_ids n kept) ≡ length kept
 ids_count [] n = refl
-ids_count (ty ∷ tys) n = ap suc (ids_count tys (suc n))
+ids_count (true ∷ kept) n = ap suc (ids_count kept (suc n))
+ids_count (false ∷ kept) n = ap suc (ids_count kept n)
 
 locals_with : (s : Sight) (ids : List ℕ) → (seen_by s (with_locals s.function ids s.ids)).ids.locals s.function ≡ s.ids.locals s.function ++ ids
 locals_with s ids = ap (λ (b : Bool). if b then s.ids.locals s.function ++ ids else s.ids.locals s.function) (eq-eqb s.function s.function refl)
@@ -129,15 +161,15 @@ sees_with s a locals ids h = record { rooms = rooms; blocks = h.blocks; wide = h
         ap (λ (l : List ℕ). length l) (locals_with s ids) ∙ length-append (s.ids.locals s.function) ids ∙ ap (λ (n : ℕ). n + length ids) (h.rooms labels Locals)
     rooms labels Labels = refl
 
-pub sees_more : (s : Sight) (a : Around) (params : ℕ) (rs : List Run) (ls ms : List Local) (j : Ids) → Sees s a params → Adds s.function (map (renamed_value (at s.ids.types)) (declared rs)) ls ms s.ids j
+pub sees_more : (s : Sight) (a : Around) (params : ℕ) (rs : List Run) (kept : List Bool) (ls ms : List Local) (j : Ids) → Sees s a params → AddsKept s.function kept (map (renamed_value (at s.ids.types)) (declared rs)) ls ms s.ids j
     → Sees (seen_by s j) a (fold next_total params rs)
-sees_more s a params rs ls ms j h adds =
+sees_more s a params rs kept ls ms j h adds =
     let tys = map (renamed_value (at s.ids.types)) (declared rs) in
-    let ids = ids_from (length ls) tys in
+    let ids = kept_ids (length ls) kept in
     let S : Ids → Type 0 = λ k. Sees (seen_by s k) a (fold next_total params rs) in
     let N : ℕ → Type 0 = λ n. Sees (seen_by s (with_locals s.function ids s.ids)) a n in
     let count : params + length ids ≡ fold next_total params rs =
-    ap (λ (n : ℕ). params + n) (ids_count tys (length ls) ∙ length-map (declared rs) (renamed_value (at s.ids.types))) ∙ declared_count rs params in
+    ap (λ (n : ℕ). params + n) (ids_count kept (length ls) ∙ adds.many ∙ length-map (declared rs) (renamed_value (at s.ids.types))) ∙ declared_count rs params in
     subst S (sym adds.named) (subst N count (sees_with s a params ids h))
 
 pub is_seen : (s : Sight) (features : WasmFeatures) (locals : ℕ) (a : Around) → IsAround s features locals a → IsSeen features s.ids.types a
@@ -201,7 +233,10 @@ module _ {V : Type 0} (s : Sight) (told : parsed.Telling V) (params code : ℕ) 
         read = λ a around.
             body_parsed a params (place_at code old) place (end_of old) told.rest (rest old) (rest mid) rs t.ops left w
             (begins.declares.read a (is_seen s features params a around)) (place_behind code old mid moves within behind)
-            (subst P (parsers_agree sees features a (fold next_total params rs) around.features_are (sees_more s a params rs ls ms j around.sees begins.declares.adds)) ended);
+            (subst P (parsers_agree sees features a (fold next_total params rs) around.features_are (sees_more s a params rs begins.declares.kept ls ms j around.sees begins.declares.adds)) ended);
+        adds =
+            let kept = begins.declares.are_kept (map (λ (x : ℕ × Seen). x.1) t.ops) (pass_stands features sees (op_told told.rest.op) (end_of old) t.ops (opened place) left ended.left (rest mid) ended.passed) in
+            subst (λ (ks : List Bool). AddsKept s.function ks (map (renamed_value (at s.ids.types)) (declared rs)) ls ms s.ids j) kept begins.declares.adds;
         typed = typed;
         stands = λ pick h. picks_stand sees pick b (tree_of (ops_from place t.ops)) h t.stands;
       }

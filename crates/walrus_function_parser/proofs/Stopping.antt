@@ -125,4 +125,4 @@ causes s told params code old ls ms j v w e within begins (inr (inr h)) = inr (�
     let P : Parser → Type 0 = λ p. FailOps p told.rest (end_of old) (place_at code mid) sees h.left (rest mid) w e in
     operators_cause s told params code old j e a rs (place_at code mid) h.left w (rest mid) (h.begins.declares.read a (is_seen s features params a around))
     (place_behind code old mid h.begins.moves within begins)
-    (subst P (parsers_agree sees features a (fold next_total params rs) around.features_are (sees_more s a params rs ls ms j around.sees h.begins.declares.adds)) h.fails))
+    (subst P (parsers_agree sees features a (fold next_total params rs) around.features_are (sees_more s a params rs h.begins.declares.kept ls ms j around.sees h.begins.declares.adds)) h.fails))

@@ -1,9 +1,10 @@
 -- Whole bodies that are read, in words of the grammar of bodies.
-use Rattle.std.specs.Prelude.{◌≡◌, ◌⊎◌, ℕ, Bool, List, Option, Some, Ok, Err}
+use Rattle.std.specs.Prelude.{◌≡◌, ◌⊎◌, ℕ, Bool, List, length, map, Option, Some, Ok, Err}
 use Rattle.wasm_features.specs.declared.WasmFeatures.{WasmFeatures}
 use Rattle.wasm_reader.specs.Cursor.{Cursor, Forward, rest, end_of}
 use Rattle.walrus_body_parser.specs.walrus_body_locals.wasm_ref_types.declared.value.ValType.{ValType as Written}
 use Rattle.walrus_forms.specs.declared.value.ValType.{ValType}
+use Rattle.walrus_forms.specs.Renaming.{at, renamed_value}
 use Rattle.walrus_instr.specs.walrus_items.declared.local.Local.{Local}
 use Rattle.walrus_index_maps.specs.Maps.{Ids}
 use Rattle.walrus_instr.specs.declared.seq.InstrSeqType.{InstrSeqType}
@@ -12,7 +13,7 @@ use Rattle.wasm_formats.specs.Stops.{Stop}
 use Rattle.walrus_body_parser.specs.walrus_body_locals.wasm_operators.declared.block_type.BlockType.{BlockType}
 use Rattle.walrus_body_parser.specs.wasm_operators.Operators.{Seen}
 use Rattle.walrus_body_parser.specs.walrus_body_locals.wasm_body_grammar.Rules.{Around}
-use Rattle.walrus_body_parser.specs.walrus_body_locals.wasm_body_grammar.Bodies.{Run, run, body}
+use Rattle.walrus_body_parser.specs.walrus_body_locals.wasm_body_grammar.Bodies.{Run, run, body, declared}
 use Rattle.walrus_body_parser.specs.walrus_body_locals.wasm_normal_form.Trees.{tree_of}
 use Rattle.walrus_body_parser.specs.walrus_body_locals.wasm_normal_form.Normal.{normal}
 use Rattle.walrus_body_parser.specs.walrus_body_locals.walrus_body_env.declared.error.BodyError.{BodyError}
@@ -24,7 +25,8 @@ use Rattle.walrus_body_parser.specs.walrus_body_rules.Agreeing.{Sees}
 use Rattle.walrus_body_parser.specs.walrus_body_steps.Meanings.{meaning}
 use Rattle.walrus_body_parser.specs.walrus_body_steps.Picks.{ArePicks}
 use Rattle.walrus_body_parser.specs.walrus_body_locals.Calls.{IsFaultOf}
-use Rattle.walrus_body_parser.specs.walrus_body_locals.Locals.{run_told, IsSeen, SomeRuns, FailRuns, Declares}
+use Rattle.walrus_body_parser.specs.walrus_body_locals.Locals.{run_told, IsSeen, SomeRuns, FailRuns, AddsKept, Declares}
+use Rattle.walrus_body_parser.specs.walrus_body_locals.Named.{kept_by}
 use Rattle.walrus_body_parser.specs.Points.{place_at, ops_from}
 use Rattle.walrus_body_parser.specs.Changes.{LacksType}
 use Rattle.walrus_body_parser.specs.Trees.{Validating, parser_of, EndOps, SomeOps, FailOps}
@@ -68,7 +70,8 @@ module _ {V : Type 0} (s : Sight) (told : Telling V) (params code : ℕ) (old : 
     pub moves : Forward old now
 
   -- the body was read: the bytes are parsed as its runs and its operators, all were accepted, and its sequences stand as the normal
-  -- form of the operators' tree, each at its place, whose block types are the picks
+  -- form of the operators' tree, each at its place, whose block types are the picks; of the locals that it declares those were added that its
+  -- operators name, or all, where all are wanted
   pub record Parses (entry : InstrSeqType) (ls ms : List Local) (j : Ids) (v w : V) (b : List Seq) : Type 0 where
     pub mid : Cursor
     pub left : V
@@ -76,6 +79,7 @@ module _ {V : Type 0} (s : Sight) (told : Telling V) (params code : ℕ) (old : 
     pub ops : List (ℕ × Seen)
     pub ended : EndOps (parser_of old.window.features (seen_by s j)) told.rest (end_of old) (place_at code mid) left (rest mid) ops w
     pub read : (a : Around) → IsAround s old.window.features params a → (body a params (place_at code old)).parse (rest old) ≡ Ok ((place_at code mid, begins.declares.runs), ops)
+    pub adds : AddsKept s.function (kept_by s.ids.all_locals params (length (declared begins.declares.runs)) (map (λ x. x.1) ops)) (map (renamed_value (at s.ids.types)) (declared begins.declares.runs)) ls ms s.ids j
     pub typed : type_at b 0 ≡ Some entry
     pub stands : (pick : BlockType → BlockType) → ArePicks (seen_by s j) pick → StandsAs (meaning (seen_by s j)) b (normal pick (tree_of (ops_from (place_at code mid) ops)))
 

@@ -1,3 +1,4 @@
 pub mod MapLemmas
 pub mod LocalLemmas
 pub mod RunLemmas
+pub mod SpreadLemmas

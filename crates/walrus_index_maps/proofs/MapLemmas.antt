@@ -6,7 +6,8 @@ use Rattle.std.specs.declared.cmp.Ordering.{Ordering}
 use Rattle.std.specs.declared.cmp.Ordering.TheVariants.{Less, Equal, Greater}
 use Rattle.std.specs.Ordering.{is_eq, nat_cmp, ordering_then}
 use Rattle.std.specs.Cmp.{nat_cmp_is}
-use Rattle.walrus_index_maps.specs.Maps.{Numbering, numbered, with_first, with_last, with_local}
+use Rattle.walrus_index_maps.specs.Maps.{Numbering, numbered, with_first, with_last, with_local, with_skipped}
+use Rattle.walrus_index_maps.specs.Runs.{nowhere}
 use Rattle.walrus_index_maps.specs.Views.{items_at, key_cmp}
 
 no_numbers : {A : Type 0} (nothing : Option A) (n i : ℕ) → nothing ≡ None → get_or (replicate n nothing) i None ≡ None
@@ -84,6 +85,16 @@ pub written_list : (vs : List (List ℕ)) (at id : ℕ) (v : List ℕ) → at < 
 written_list vs at id v l e = agree _ _ (λ f. each f)
   where
     each : (f : ℕ) → items_at (set vs at v) f ≡ with_last at id (items_at vs) f
+    each f = elim (cases_Bool (f == at)) [
+      | inl same ↦ rw (same, eqb-true f at same) (here vs at v l ∙ e)
+      | inr other ↦ rw other (elsewhere vs at v f (eqb-false f at other))
+    ]
+
+pub skipped_list : (vs : List (List ℕ)) (at n : ℕ) (v : List ℕ) → at < length vs → v ≡ items_at vs at ++ replicate n nowhere
+    → items_at (set vs at v) ≡ with_skipped at n (items_at vs)
+skipped_list vs at n v l e = agree _ _ (λ f. each f)
+  where
+    each : (f : ℕ) → items_at (set vs at v) f ≡ with_skipped at n (items_at vs) f
     each f = elim (cases_Bool (f == at)) [
       | inl same ↦ rw (same, eqb-true f at same) (here vs at v l ∙ e)
       | inr other ↦ rw other (elsewhere vs at v f (eqb-false f at other))

@@ -1,7 +1,9 @@
 -- Finite maps between indices and ids, as contracts see them.
-use Rattle.std.specs.Prelude.{ℕ, ◌+◌, ◌==◌, ◌&&◌, List, [], ◌∷◌, ◌++◌, take, Option, Some, None, if◌then◌else◌}
+use Rattle.std.specs.Prelude.{ℕ, ◌+◌, ◌==◌, ◌&&◌, Bool, false, List, [], ◌∷◌, ◌++◌, take, replicate, Option, Some, None, if◌then◌else◌}
+use Rattle.walrus_index_maps.specs.Runs.{nowhere}
 
--- ---- from indices to ids: of each space the ids in the order of their indices; of locals, for each function
+-- ---- from indices to ids: of each space the ids in the order of their indices; of locals, for each function, and whether those that a body
+-- declares and nothing names are to have ids, too
 
 pub record Ids : Type 0 where
   pub types : List ℕ
@@ -13,9 +15,14 @@ pub record Ids : Type 0 where
   pub elements : List ℕ
   pub segments : List ℕ
   pub locals : ℕ → List ℕ
+  pub all_locals : Bool
 
 abbrev pub no_ids : Ids
-no_ids = record { types = []; functions = []; tables = []; memories = []; tags = []; globals = []; elements = []; segments = []; locals = λ _. [] }
+no_ids = record { types = []; functions = []; tables = []; memories = []; tags = []; globals = []; elements = []; segments = []; locals = λ _. []; all_locals = false }
+
+-- the same lists, but one longer by so many indices that name no local
+abbrev pub with_skipped : ℕ → ℕ → (ℕ → List ℕ) → ℕ → List ℕ
+with_skipped function n locals f = if f == function then locals f ++ replicate n nowhere else locals f
 
 -- the same lists, but one longer by an id
 abbrev pub with_last : ℕ → ℕ → (ℕ → List ℕ) → ℕ → List ℕ

@@ -17,7 +17,7 @@ items_at (ids ∷ lists) zero = ids
 items_at (ids ∷ lists) (suc f) = items_at lists f
 
 abbrev pub ids : IndicesToIds → Ids
-ids m = record { types = m.types.items; functions = m.funcs; tables = m.tables; memories = m.memories; tags = m.tags; globals = m.globals; elements = m.elements; segments = m.segments; locals = items_at m.locals.items }
+ids m = record { types = m.types.items; functions = m.funcs; tables = m.tables; memories = m.memories; tags = m.tags; globals = m.globals; elements = m.elements; segments = m.segments; locals = items_at m.locals.items; all_locals = m.all_locals }
 
 abbrev pub numbering : {S : Type 0} → Numbers S → Numbering
 numbering m = record { number = λ id. slice_index_or m.numbers.items id None; given = m.given }

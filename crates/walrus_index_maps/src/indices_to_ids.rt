@@ -1,17 +1,18 @@
 //! What each index of a file names.
 ghost use Rattle.std.specs.Prelude.{◌≡◌, ◌<◌, ◌^◌, [], ◌∷◌, ◌++◌, length, slice_get, slice_set, IfOk, OnOk, OnErr, MatchResult};
 ghost use Rattle.std.specs.Option.{ok_or};
-ghost use Rattle.walrus_index_maps.specs.Maps.{no_ids, with_first, with_last};
+ghost use Rattle.walrus_index_maps.specs.Maps.{no_ids, with_first, with_last, with_skipped};
 ghost use Rattle.walrus_index_maps.specs.Views.{ids};
 ghost use Rattle.walrus_index_maps.specs.declared.space.Space.TheVariants as spaces;
 
 use crate::id_list::IdList;
+use crate::local_list::LocalList;
 use crate::space::Space;
 use std::alloc::{AllocError, Global};
 use thiserror::Error;
 use walrus_arena::{
     DataId, DataSpace, ElementId, ElementSpace, FunctionId, FunctionSpace, GlobalId, GlobalSpace,
-    LocalId, LocalSpace, MemoryId, MemorySpace, TableId, TableSpace, TagId, TagSpace, TypeId,
+    LocalId, MemoryId, MemorySpace, TableId, TableSpace, TagId, TagSpace, TypeId,
 };
 
 /// An index that names nothing.
@@ -32,7 +33,8 @@ pub struct IndicesToIds {
     elements: IdList<ElementSpace>,
     segments: IdList<DataSpace>,
     // By the function's number.
-    locals: Vec<IdList<LocalSpace>>,
+    locals: Vec<LocalList>,
+    all_locals: bool,
 }
 
 impl IndicesToIds {
@@ -51,6 +53,7 @@ impl IndicesToIds {
             elements: IdList::new(alloc),
             segments: IdList::new(alloc),
             locals: Vec::new(alloc),
+            all_locals: false,
         }
     }
 
@@ -264,6 +267,21 @@ impl IndicesToIds {
         Ok(index)
     }
 
+    /// The next so many indices of locals of the function name none.
+    ///
+    /// # Errors
+    ///
+    /// Want of memory. The map stays as it was.
+    pub fn skip_locals(&mut self, function: FunctionId, more: usize) -> Result<(), AllocError>
+        ensures skipped { OnOk result (ids self.new ≡ record (ids self.old) { locals = with_skipped function more (ids self.old).locals }) }
+        ensures refused { OnErr result (ids self.new ≡ ids self.old) }
+    {
+        let at = function.number() as usize;
+        self.reach_function(at)?;
+        self.locals[at].skip(more)?;
+        Ok(())
+    }
+
     // Has a list for the function of this number.
     fn reach_function(&mut self, at: usize) -> Result<(), AllocError>
         requires { at < 2 ^ 32 }
@@ -271,16 +289,16 @@ impl IndicesToIds {
         ensures same { ids self.new ≡ ids self.old }
     {
         while self.locals.len() <= at {
-            self.locals.push(IdList::new(self.alloc))?;
+            self.locals.push(LocalList::new(self.alloc))?;
         }
         Ok(())
     }
 
-    /// The local that an index of the function names.
+    /// The local that an index of the function names: where a body declares one that nothing names, the id 4294967295, which no local has.
     ///
     /// # Errors
     ///
-    /// It names none.
+    /// There is no such index.
     pub fn get_local(&self, function: FunctionId, index: u32) -> Result<LocalId, UnknownIndex>
         ensures { result ≡ ok_or (slice_get ((ids self.now).locals function) index) (record { 0 = spaces.Local }) }
     {
@@ -290,7 +308,7 @@ impl IndicesToIds {
         }
     }
 
-    /// How many locals the indices of a function name.
+    /// How many indices of locals a function has.
     pub fn local_count(&self, function: FunctionId) -> usize
         ensures { result ≡ length ((ids self.now).locals function) }
     {
@@ -298,6 +316,20 @@ impl IndicesToIds {
             Some(locals) => locals.len(),
             None => 0,
         }
+    }
+
+    /// Says whether each local that a body declares gets an id, also one that nothing names.
+    pub fn want_all_locals(&mut self, wanted: bool)
+        ensures { ids self.new ≡ record (ids self.old) { all_locals = wanted } }
+    {
+        self.all_locals = wanted;
+    }
+
+    /// Whether each local that a body declares gets an id, also one that nothing names.
+    pub fn wants_all_locals(&self) -> bool
+        ensures { result ≡ (ids self.now).all_locals }
+    {
+        self.all_locals
     }
 
     /// The first so many indices of locals name what they named in the function, and no other names anything. Takes no memory.

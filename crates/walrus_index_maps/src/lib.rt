@@ -5,6 +5,7 @@
 mod id_list;
 mod ids_to_indices;
 mod indices_to_ids;
+mod local_list;
 mod locals;
 mod numbers;
 mod space;

@@ -95,7 +95,7 @@ impl ModuleLocals {
         ensures added { IfOk result (λ id. self.new ≡ self.old ++ record { id = id; ty = ty; name = None } ∷ []) }
         ensures refused { OnErr result (self.new ≡ self.old) }
     {
-        if self.locals.len() > u32::MAX as usize {
+        if self.locals.len() >= u32::MAX as usize {
             return Err(AllocError);
         }
         let id = LocalId::from_index(self.locals.len());

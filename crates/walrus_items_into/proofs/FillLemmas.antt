@@ -29,7 +29,7 @@ use Rattle.walrus_read_laws.specs.walrus_tables_into.walrus_sections_into.walrus
 use Rattle.walrus_read_laws.specs.walrus_tables_into.walrus_sections_into.walrus_pairing.Looks.{Look}
 use Rattle.walrus_module_bodies.specs.walrus_module_env.walrus_collections.walrus_module_items.declared.data.Data.{Data}
 use Rattle.walrus_items_into.specs.Filled.{AreRead, IsFilledFrom, IsNew}
-use Rattle.walrus_items_into.specs.Numbers.{numbers_of, types_in, with_items}
+use Rattle.walrus_items_into.specs.Numbers.{AreNumbersOf, numbers_of, types_in, with_items}
 use Rattle.walrus_items_into.specs.Spaces.{Spaces}
 
 -- ---- what is asked
@@ -64,6 +64,9 @@ pub numbered : {A : Type 0} (s : Sections) (i j k l : Ids) (t : Table) (first : 
     → k ≡ with_functions (length first) (length s.functions.items) j → l ≡ with_items s k → l ≡ numbers_of s
 numbered s i j k l t first none empty no_function types functions items =
     rw (items, functions, types, no_function, empty, none) (ap (λ (numbers : List ℕ). record (numbers_of s) { functions = numbers }) (counted (length s.functions.items)))
+
+are_numbers : (s : Sections) (i : Ids) → i ≡ numbers_of s → AreNumbersOf s i
+are_numbers s i e = e ∙ ap (λ (c : Bool). record (numbers_of s) { all_locals = c }) (sym (ap (λ (j : Ids). j.all_locals) e))
 
 -- ---- all of it
 
@@ -127,8 +130,8 @@ module _ {B : Type 0} (s : Sections) (i j k l : Ids) (old new : Spaces B) (fresh
       → Filled IsCustomOf (plain s.customs.items) old.customs.slots new.customs.slots
       → (begin : Option ℕ) → StartBecomes (look_of l) s.start begin → IsFilledFrom s begin l new
   filled reads whole types table functions numbers items imports tables memories tags globals exports elements segments customs begin start = record {
-    numbers = numbered s i j k l old.types old.functions.slots fresh.numbers fresh.types fresh.functions types
-        (numbers ∙ ap (λ (reads : List ReadFunction). with_functions (length old.functions.slots) (length reads) j) whole) items;
+    numbers = are_numbers s l (numbered s i j k l old.types old.functions.slots fresh.numbers fresh.types fresh.functions types
+        (numbers ∙ ap (λ (reads : List ReadFunction). with_functions (length old.functions.slots) (length reads) j) whole) items);
     types = table ∙ ap (λ (t : Table). (parsed s.types (unparsed t)).table) fresh.types;
     functions = functions_are reads s.functions.items j.types l.types old.functions.slots new.functions.slots fresh.functions whole
         (sym (ap (λ (m : Ids). m.types) items ∙ ap (λ (m : Ids). m.types) numbers)) functions;

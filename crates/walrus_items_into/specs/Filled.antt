@@ -20,7 +20,7 @@ use Rattle.walrus_read_laws.specs.walrus_tables_into.Elements.{IsElementOf}
 use Rattle.walrus_read_laws.specs.walrus_tables_into.Customs.{IsCustomOf, plain}
 use Rattle.walrus_module_bodies.specs.walrus_module_env.walrus_collections.walrus_module_items.declared.data.Data.{Data}
 use Rattle.walrus_items_into.specs.Spaces.{Spaces}
-use Rattle.walrus_items_into.specs.Numbers.{numbers_of, types_in}
+use Rattle.walrus_items_into.specs.Numbers.{AreNumbersOf, numbers_of, types_in}
 
 -- they are those of a file, which is so many bytes
 abbrev pub AreRead : Sections → Type 0
@@ -54,7 +54,7 @@ module _ {B : Type 0} where
   -- and no bodies, and the items of each other space fill its slots in the file's order, each the same, but that a name is an id; of the
   -- custom sections those that stay sections
   pub record IsFilledFrom (s : Sections) (begin : Option ℕ) (i : Ids) (m : Spaces B) : Type 0 where
-    pub numbers : i ≡ numbers_of s
+    pub numbers : AreNumbersOf s i
     pub types : m.types ≡ (types_in s).table
     pub functions : m.functions.slots ≡ functions_from i.types 0 s.functions.items
     pub imports : Filled (IsImportOf (look_of i)) s.imports.items [] m.imports.slots

@@ -1,6 +1,6 @@
 -- What the numbers of a file name in a module that began empty: each type has the id of what stands for it, and the other items have the
 -- ids 0, 1 and on, in the file's order.
-use Rattle.std.specs.Prelude.{◌++◌, length}
+use Rattle.std.specs.Prelude.{◌≡◌, ◌++◌, length}
 use Rattle.walrus_read_laws.specs.walrus_tables_into.walrus_sections_into.walrus_index_maps.Maps.{Ids, no_ids}
 use Rattle.walrus_read_laws.specs.walrus_tables_into.walrus_sections_into.walrus_instr.walrus_types.Parsing.{Parsed, parsed, unparsed}
 use Rattle.walrus_module_bodies.specs.walrus_functions_into.walrus_types_into.Into.{no_types}
@@ -34,3 +34,7 @@ numbers_of s = record no_ids {
   elements = upto (length s.elements.items);
   segments = upto (length s.segments.items);
 }
+
+-- the map numbers what the file has; whether all locals are wanted is another matter
+abbrev pub AreNumbersOf : Sections → Ids → Type 0
+AreNumbersOf s i = i ≡ record (numbers_of s) { all_locals = i.all_locals }

@@ -108,9 +108,9 @@ module _ (seen : FilesAreSeen) (e : ModuleEnv) (function : ℕ) (i : Ids) (s : S
     read = subst (λ (n : ℕ). (body a params (place_at n old)).parse (rest old) ≡ Ok ((place_at code p.mid, p.begins.declares.runs), p.ops)) codes (p.read a (around a filed));
     counted =
         ap (λ (x : Sight). length (j.locals x.function)) (sym aside)
-        ∙ (sees_more s a params p.begins.declares.runs _ _ j (around a filed).sees p.begins.declares.adds).rooms 0 Locals
+        ∙ (sees_more s a params p.begins.declares.runs p.begins.declares.kept _ _ j (around a filed).sees p.begins.declares.adds).rooms 0 Locals
         ∙ sym (declared_count p.begins.declares.runs params);
-    adds = subst (λ (x : Sight). AddsRuns x.function p.begins.declares.runs ls ms x.ids j) aside p.begins.declares.adds;
+    adds = subst (λ (x : Sight). AddsRuns x.function params p.begins.declares.runs p.ops ls ms x.ids j) aside p.adds;
     stands = λ pick picks. p.stands pick (subst (λ (x : Sight). ArePicks x pick) (sym (later j)) (picks_aside (sight_in e function j) (results_at e.types.now) s.handler_type (λ id. refl) pick picks));
   }
 

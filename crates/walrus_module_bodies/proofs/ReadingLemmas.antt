@@ -33,8 +33,10 @@ use Rattle.walrus_module_env.specs.Around.{IsFiled, sight_in}
 use Rattle.walrus_module_env.specs.Env.{tag_type_at}
 use Rattle.walrus_module_env.specs.Filled.{AreFiled}
 use Rattle.walrus_module_env.specs.Parsed.{PicksAreSeen}
+use Rattle.walrus_module_env.specs.walrus_body_parser.wasm_operators.Operators.{Seen}
 use Rattle.walrus_module_env.specs.walrus_body_parser.Points.{place_at, ops_from}
-use Rattle.walrus_module_env.specs.walrus_collections.walrus_local_function.walrus_body_locals.Locals.{ids_from, with_locals}
+use Rattle.walrus_module_env.specs.walrus_collections.walrus_local_function.walrus_body_locals.Locals.{kept_ids, with_locals}
+use Rattle.walrus_module_env.specs.walrus_collections.walrus_local_function.walrus_body_locals.Named.{kept_by}
 use Rattle.walrus_module_env.specs.walrus_collections.walrus_module_items.declared.memory.Memory.{Memory}
 use Rattle.walrus_module_env.specs.wasm_run_names.Picks.{block_pick}
 use Rattle.walrus_module_bodies.specs.declared.file.FileEnv.{FileEnv}
@@ -97,7 +99,7 @@ handled_read stand seen file old new function params from i j ls ms c h e f late
     let is = h.env_is in
     let mine = filed_in e g i function params from.window.features a (at_e.types_are ∙ sym is.types_are) (at_e.memories_are ∙ sym is.memories_are) (at_e.own_are ∙ sym is.own_are) (at_e.counted_is ∙ sym is.counted_is) filed in
     let r = h.aside a mine in
-    let ids : List ℕ = ids_from (length ls) (map (renamed_value (at i.types)) (declared r.runs)) in
+    let ids : List ℕ = kept_ids (length ls) (kept_by i.all_locals params (length (declared r.runs)) (map (λ (x : ℕ × Seen). x.1) r.ops)) in
     let more = more_locals g i function params from.window.features a ids mine in
     let named = seen g (with_locals function ids i) function (length ((with_locals function ids i).locals function)) from.window.features a more in
     let picks = subst (λ (k : Ids). ArePicks (sight_in g function k) (block_pick a)) (sym r.adds.named) named in (

@@ -10,7 +10,8 @@ use Rattle.walrus_module_env.specs.walrus_body_parser.walrus_body_stack.walrus_i
 use Rattle.walrus_forms.specs.Renaming.{at, renamed_value}
 use Rattle.walrus_module_env.specs.walrus_handler_types.walrus_tree.Trees.{IsTree}
 use Rattle.walrus_module_env.specs.Env.{tag_type_at}
-use Rattle.walrus_module_env.specs.walrus_collections.walrus_local_function.walrus_body_locals.Locals.{Adds}
+use Rattle.walrus_module_env.specs.walrus_collections.walrus_local_function.walrus_body_locals.Locals.{AddsKept}
+use Rattle.walrus_module_env.specs.walrus_collections.walrus_local_function.walrus_body_locals.Named.{kept_by}
 use Rattle.walrus_module_env.specs.walrus_body_parser.walrus_body_steps.Meanings.{meaning}
 use Rattle.walrus_module_env.specs.walrus_body_parser.walrus_body_steps.Picks.{ArePicks}
 use Rattle.walrus_module_env.specs.walrus_body_parser.walrus_body_stack.walrus_body_nesting.Stands.{StandsAs}
@@ -35,12 +36,14 @@ use Rattle.walrus_module_bodies.specs.declared.file.FileEnv.{FileEnv}
 use Rattle.walrus_module_bodies.specs.Envs.{IsEnv}
 use Rattle.walrus_module_env.specs.Handled.{SeesAside}
 
--- the locals that these runs declare were added to the module, and the next indices of the function name them
-abbrev pub AddsRuns : ℕ → List Run → List Local → List Local → Ids → Ids → Type 0
-AddsRuns function runs ls ms i j = Adds function (map (renamed_value (at i.types)) (declared runs)) ls ms i j
+-- of the locals that these runs declare, behind so many parameters, those were added to the module that these operators name, or all, where all are
+-- wanted, and the next indices of the function name them
+abbrev pub AddsRuns : ℕ → ℕ → List Run → List (ℕ × Seen) → List Local → List Local → Ids → Ids → Type 0
+AddsRuns function params runs ops ls ms i j =
+    AddsKept function (kept_by i.all_locals params (length (declared runs)) (map (λ x. x.1) ops)) (map (renamed_value (at i.types)) (declared runs)) ls ms i j
 
 -- the bytes are parsed as a body of this file, and its sequences stand as its normal form in the eyes of one who sees the module, types of
--- handlers aside; the function's indices name its parameters and the locals that the body declares
+-- handlers aside; the function's indices name its parameters and those of the locals that the body declares that are added
 pub record IsReadAside (e : ModuleEnv) (function params : ℕ) (old : Cursor) (i j : Ids) (ls ms : List Local) (b : List Seq) (a : Around) : Type 0 where
   pub sight : Sight
   pub aside : SeesAside sight (sight_in e function j)
@@ -49,7 +52,7 @@ pub record IsReadAside (e : ModuleEnv) (function params : ℕ) (old : Cursor) (i
   pub ops : List (ℕ × Seen)
   pub read : (body a params (place_at e.code_start old)).parse (rest old) ≡ Ok ((place, runs), ops)
   pub counted : length (j.locals function) ≡ params + length (declared runs)
-  pub adds : AddsRuns function runs ls ms i j
+  pub adds : AddsRuns function params runs ops ls ms i j
   pub stands : (pick : BlockType → BlockType) → ArePicks (sight_in e function j) pick → StandsAs (meaning sight) b (normal pick (tree_of (ops_from place ops)))
 
 -- of each file whose sections were read into the module
@@ -70,7 +73,7 @@ TagsStand tags t i = (n tag : ℕ) → slice_get i.tags n ≡ Some tag → (item
 abbrev pub IsHandledBody : FileEnv → Table → Table → ℕ → ℕ → Cursor → Ids → Ids → List Local → List Local → List Seq → Type 0
 IsHandledBody file old new function params from i j ls ms b = (e f : ModuleEnv) (later : Table) → IsEnv file old e → Grows new later → IsEnv file later f
     → (a : Around) → IsFiled e i function params from.window.features a
-    → (r : IsRead f function params from j b a) × (length (j.locals function) ≡ params + length (declared r.runs)) × AddsRuns function r.runs ls ms i j
+    → (r : IsRead f function params from j b a) × (length (j.locals function) ≡ params + length (declared r.runs)) × AddsRuns function params r.runs r.ops ls ms i j
 
 -- it was read beside some type for each handler, and its sequences formed a tree; then its handlers were given their types, in the order of the
 -- text, by the table, which had those added that it lacked

@@ -65,6 +65,7 @@ module _ {B : Type 0} where
     pub numbers : Ids
     pub filled : Spaces B
     pub are_filled : IsFilledFrom sections start numbers filled
+    pub wanted : numbers.all_locals ≡ config.generate_synthetic_names_for_anonymous_items
     pub file : FileEnv
     pub is_file : IsFileOf sections filled.types filled.tags filled.memories file
     pub bodied : State

@@ -1,4 +1,5 @@
 mod ReadLemmas
+mod WantLemmas
 mod RefusalLemmas
 pub mod TypeLemmas
 pub mod WholeLemmas

@@ -86,6 +86,8 @@ fn read_module<B: Drop>(
         Ok(start) => start,
         Err(_) => return Err(ModuleError::Memory),
     };
+    // Each local gets a synthetic name, so each is an item.
+    maps.want_all_locals(config.generate_synthetic_names_for_anonymous_items);
     read_named(
         alloc,
         features,

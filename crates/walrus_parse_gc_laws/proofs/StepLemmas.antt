@@ -3,7 +3,8 @@ use Rattle.std.proofs.Common.{subst, sym}
 use Rattle.std.specs.List.{AllByRecursion}
 use Rattle.std.specs.Option.{option_map, option_or}
 use Rattle.std.specs.Prelude.{if◌then◌else◌, Bool, List, None, Option, Some, [], false, fold, length, map, refl, suc, true, ℕ, ◌+◌, ◌∷◌, ◌≡◌}
-use Rattle.walrus_parse_laws.specs.walrus_named_bodies.walrus_file_bodies.walrus_items_into.walrus_module_env.walrus_body_parser.walrus_body_locals.Locals.{Adds, locals_from}
+use Rattle.walrus_parse_laws.specs.walrus_named_bodies.walrus_file_bodies.walrus_items_into.walrus_module_env.walrus_body_parser.walrus_body_locals.Locals.{Adds, AddsKept, locals_from}
+use Rattle.walrus_parse_laws.specs.walrus_named_bodies.walrus_file_bodies.walrus_items_into.walrus_module_env.walrus_body_parser.walrus_body_locals.Named.{kept_by, kept_of}
 use Rattle.walrus_parse_laws.specs.walrus_named_bodies.walrus_file_bodies.walrus_items_into.walrus_module_env.walrus_handler_types.walrus_body_steps.walrus_body_nesting.Opens.{same}
 use Rattle.walrus_parse_laws.specs.walrus_named_bodies.walrus_file_bodies.walrus_items_into.walrus_module_env.walrus_handler_types.walrus_body_steps.walrus_body_nesting.Stands.{StandsAs}
 use Rattle.walrus_parse_laws.specs.walrus_named_bodies.walrus_file_bodies.walrus_items_into.walrus_module_env.walrus_body_parser.walrus_body_rules.Sights.{Sight}
@@ -68,6 +69,17 @@ adds_inexact : (function : ℕ) (tys : List ValType) (ls ms : List Local) (i j :
 adds_inexact function tys ls ms i j h new before =
     subst InexactLocals (sym h.added) (joined (λ (l : Local). InexactValue l.ty) ls (locals_from (length ls) tys) before (from_inexact (length ls) tys new))
 
+kept_inexact : (kept : List Bool) (tys : List ValType) → InexactValues tys → InexactValues (kept_of kept tys)
+kept_inexact [] tys h = tt
+kept_inexact (k ∷ kept) [] h = tt
+kept_inexact (true ∷ kept) (ty ∷ tys) h = (h.0, kept_inexact kept tys h.1)
+kept_inexact (false ∷ kept) (ty ∷ tys) h = kept_inexact kept tys h.1
+
+keeps_inexact : (function : ℕ) (kept : List Bool) (tys : List ValType) (ls ms : List Local) (i j : Ids) → AddsKept function kept tys ls ms i j → InexactValues tys → InexactLocals ls → InexactLocals ms
+keeps_inexact function kept tys ls ms i j h new before =
+    subst InexactLocals (sym h.added)
+    (joined (λ (l : Local). InexactValue l.ty) ls (locals_from (length ls) (kept_of kept tys)) before (from_inexact (length ls) (kept_of kept tys) (kept_inexact kept tys new)))
+
 -- ---- operators fit
 
 module _ (spelled : AreSpelled) (a : Around) where
@@ -128,7 +140,7 @@ module _ (stay : FoundTypesStay) (on : TablesGrowOn) (enter : EntryTypesGrow) (b
     mid_env = env_of file s.mid
 
     it : (r : IsRead (env_of file new.types) b.number (length s.params) (cursor_of file features b) new.ids (contents s.body.builder.builder) a) × (length (new.ids.locals b.number) ≡ length s.params + length (declared r.runs))
-        × AddsRuns b.number r.runs s.named new.locals s.numbered new.ids
+        × AddsRuns b.number (length s.params) r.runs r.ops s.named new.locals s.numbered new.ids
     it = s.read mid_env (env_of file new.types) new.types (env_is file s.mid) (grows_none new.types) (env_is file new.types) a (step_filed stay on enter file features a count b bs old new w s mid_env (env_is file s.mid))
 
     was_read : InexactBody (body_of ((it.0.place, it.0.runs), it.0.ops))
@@ -141,7 +153,8 @@ module _ (stay : FoundTypesStay) (on : TablesGrowOn) (enter : EntryTypesGrow) (b
     pub step_locals : InexactLocals old.locals → InexactLocals new.locals
     step_locals before =
         let first = adds_inexact b.number s.params old.locals s.named old.ids s.numbered s.arguments own_params before in
-        adds_inexact b.number (map (renamed_value (at s.numbered.types)) (declared it.0.runs)) s.named new.locals s.numbered new.ids it.2 (values_renamed (at s.numbered.types) (declared it.0.runs) was_read.0) first
+        let kept = kept_by s.numbered.all_locals (length s.params) (length (declared it.0.runs)) (map (λ (x : ℕ × Seen). x.1) it.0.ops) in
+        keeps_inexact b.number kept (map (renamed_value (at s.numbered.types)) (declared it.0.runs)) s.named new.locals s.numbered new.ids it.2 (values_renamed (at s.numbered.types) (declared it.0.runs) was_read.0) first
 
     pub step_body : BodyHasNone (seqs_of s.body.builder)
     step_body =

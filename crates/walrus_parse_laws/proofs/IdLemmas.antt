@@ -12,9 +12,9 @@ use Rattle.walrus_parse_laws.proofs.KeyLemmas.{has}
 
 -- ---- ids
 
-pub ids_joined : (first : ℕ) (xs ys : List ValType) → ids_from first xs ++ ids_from (first + length xs) ys ≡ ids_from first (xs ++ ys)
-ids_joined first [] ys = ap (λ (n : ℕ). ids_from n ys) (omega arith)
-ids_joined first (x ∷ xs) ys = ap (λ (l : List ℕ). first ∷ l) (ap (λ (n : ℕ). ids_from (suc first) xs ++ ids_from n ys) (omega arith) ∙ ids_joined (suc first) xs ys)
+pub many_ids : (first : ℕ) (tys : List ValType) → length (ids_from first tys) ≡ length tys
+many_ids first [] = refl
+many_ids first (ty ∷ tys) = ap suc (many_ids (suc first) tys)
 
 pub get_id : (first : ℕ) (tys : List ValType) (n : ℕ) → n < length tys → slice_get (ids_from first tys) n ≡ Some (first + n)
 get_id first [] n lt = absurd (omega (arith, lt))

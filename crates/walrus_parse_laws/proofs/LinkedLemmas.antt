@@ -1,5 +1,5 @@
 -- Lemmas: a module that was read is linked.
-use Rattle.std.specs.Prelude.{ℕ, zero, suc, ◌≡◌, ◌<◌, Bool, true, false, List, [], ◌∷◌, length, map, Option, Some, None, IsSome, slice_get, slice_index_or, refl, if◌then◌else◌}
+use Rattle.std.specs.Prelude.{ℕ, zero, suc, ◌≡◌, ◌<◌, Bool, true, false, List, [], ◌∷◌, Contains, length, map, Option, Some, None, IsSome, slice_get, slice_index_or, refl, if◌then◌else◌}
 use Rattle.std.specs.Option.{option_map}
 use Rattle.std.proofs.Common.{ap, sym, ◌∙◌, subst, arith, inl, inr}
 use Rattle.std.proofs.lemmas.List.{length-map}
@@ -27,6 +27,7 @@ use Rattle.walrus_function_types.specs.Growth.{EntryTypesGrow, FoundTypesStay, T
 use Rattle.walrus_named_bodies.specs.walrus_file_bodies.walrus_items_into.walrus_functions_into.Functions.{kind_of}
 use Rattle.walrus_named_bodies.specs.walrus_file_bodies.walrus_items_into.walrus_functions_into.declared.bodies.FunctionBody.{FunctionBody}
 use Rattle.walrus_named_bodies.specs.walrus_file_bodies.walrus_items_into.walrus_module_bodies.walrus_body_trees.walrus_meaning.walrus_linked.walrus_body_writer.walrus_pairing.walrus_index_maps.Maps.{Ids}
+use Rattle.walrus_named_bodies.specs.walrus_file_bodies.walrus_items_into.walrus_module_bodies.walrus_body_trees.walrus_meaning.walrus_linked.walrus_body_writer.walrus_pairing.walrus_index_maps.Runs.{nowhere}
 use Rattle.walrus_named_bodies.specs.walrus_item_names.Holder.{Holder}
 use Rattle.walrus_named_bodies.specs.walrus_item_names.Names.{bare_function, bare_local, bare_type}
 use Rattle.walrus_types.specs.walrus_items.declared.local.Local.{Local}
@@ -63,10 +64,10 @@ use Rattle.walrus_parse_laws.proofs.ListLemmas.{AllOf, all_contains, get_some, i
 use Rattle.walrus_parse_laws.proofs.ItemsTypeLemmas.{there_too}
 use Rattle.walrus_parse_laws.specs.Named.{HasNoBodies, NamesLive, NamesOfReadItemsLive}
 use Rattle.walrus_parse_laws.specs.Indices.{IndicesOfReadModulesLive}
-use Rattle.walrus_parse_laws.specs.Linked.{ReadModulesAreLinked}
+use Rattle.walrus_parse_laws.specs.Linked.{ReadModulesAreLinked, WalksOfReadBodiesNameLocals}
 use Rattle.walrus_parse_laws.proofs.LinkedGroupLemmas.{file_written, steps_written}
 use Rattle.walrus_parse_laws.proofs.LinkedLocalLemmas.{GoodLocal}
-use Rattle.walrus_parse_laws.proofs.LinkedStepLemmas.{Sound, all_of, step_sound, step_walk, steps_more, steps_sound}
+use Rattle.walrus_parse_laws.proofs.LinkedStepLemmas.{Walk, Sound, all_of, step_sound, step_walk, steps_more, steps_sound}
 use Rattle.walrus_parse_laws.proofs.LinkedValueLemmas.{Closed, GoodKind, GoodTypes}
 
 -- ---- the types of a file
@@ -140,8 +141,8 @@ no_body locals ty None kind e = ap (body_names locals) e
 no_body locals ty (Some n) kind e = ap (body_names locals) e
 
 pub linked : {B : Type 0} → ReadFunctionsAreWhole B → ReadModulesHaveLinks B → NamesOfReadItemsLive B → IndicesOfReadModulesLive B → FilledFunctionsStand B → FilledModulesAreFiled B → BodiesReadFiles B
-    → ReadTypesAreDeclared → EntryTypesGrow → FoundTypesStay → TablesGrowOn → WalksNameAnswers → HandlersHaveAnswers → ReadModulesAreLinked B
-linked {B} whole links live indices stands filed bodies declares enter stay on walks handled config bytes m found small is = record {
+    → ReadTypesAreDeclared → EntryTypesGrow → FoundTypesStay → TablesGrowOn → WalksNameAnswers → HandlersHaveAnswers → WalksOfReadBodiesNameLocals B → ReadModulesAreLinked B
+linked {B} whole links live indices stands filed bodies declares enter stay on walks handled inner config bytes m found small is = record {
   imports = has.imports;
   imported = has.imported;
   whole = whole config bytes m found small is;
@@ -252,9 +253,19 @@ linked {B} whole links live indices stands filed bodies declares enter stay on w
     last = steps_sound stay on enter walks handled is.1.file features a (count_in s) final is.1.bodied.locals i Good typed named local_lives s.code_start (length bytes) bs old is.1.bodied fit waits is.1.bodies_are (grows_none final) (omega arith) first
 
     Walked : LocalFunction → Type 0
-    Walked local = AllAre Good (items_of (body_walk (seqs_of local.builder) 0))
+    Walked local = AllAre (Walk Good) (items_of (body_walk (seqs_of local.builder) 0))
 
-    body_good : (kind : FunctionKind) (local : LocalFunction) → kind ≡ kinds.Local local → Walked local → AllOf Good (items_of (body_names m.locals kind))
+    -- the locals that a body's walk names are there
+    walk_good : (f : ℕ) (function : Function) (local : LocalFunction) → item_at m.funcs f ≡ Some function → function.kind ≡ kinds.Local local → Walked local → AllAre Good (items_of (body_walk (seqs_of local.builder) 0))
+    walk_good f function local there is walked y has = by (walked y has)
+      where
+        by : Walk Good y → Good y
+        by (inl good) = good
+        by (inr e) =
+            let inside = inner config bytes m found small is f function local there is nowhere (subst (Contains (items_of (body_walk (seqs_of local.builder) 0))) e has) in
+            subst Good (sym e) inside
+
+    body_good : (kind : FunctionKind) (local : LocalFunction) → kind ≡ kinds.Local local → AllAre Good (items_of (body_walk (seqs_of local.builder) 0)) → AllOf Good (items_of (body_names m.locals kind))
     body_good kind local e walked = subst (λ (k : FunctionKind). AllOf Good (items_of (body_names m.locals k))) (sym e)
         (items_join Good (body_events local) (events_of (used_types m.locals) (body_events local)) (all_of Good (items_of (body_events local)) walked)
         (used_good Good m.locals (locals_good Good m.locals is.1.bodied.locals locals_bare last.locals_good) (body_events local)))
@@ -280,7 +291,8 @@ linked {B} whole links live indices stands filed bodies declares enter stay on w
                 subst (λ (es : List Event). AllOf Good (items_of es)) (sym (no_body m.locals _ read.0.import function.kind (sym same.kind_is ∙ read.1))) tt
             | inr body ↦
                 let alike : same.function ≡ body.function = some_is same.function body.function (sym same.there ∙ body.there) in
-                body_good function.kind body.local (sym same.kind_is ∙ ap (λ (x : Function). x.kind) alike ∙ body.kind) body.good
+                let kind = sym same.kind_is ∙ ap (λ (x : Function). x.kind) alike ∙ body.kind in
+                body_good function.kind body.local kind (walk_good f function body.local there kind body.good)
           ],
         )
 

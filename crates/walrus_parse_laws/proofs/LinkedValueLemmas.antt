@@ -2,7 +2,7 @@
 use Rattle.std.specs.Prelude.{ℕ, ◌≡◌, List, [], ◌∷◌, ◌++◌, map, Option, Some, None, option_to_list, refl}
 use Rattle.std.specs.List.{filter_map}
 use Rattle.std.specs.Option.{option_and_then}
-use Rattle.std.proofs.Common.{subst}
+use Rattle.std.proofs.Common.{append-nil, subst, sym}
 use Rattle.walrus_forms.specs.Forms.{Form, FunctionForm, StructForm, ArrayForm, form_names}
 use Rattle.walrus_forms.specs.Kinds.{Kind, entry_kind, function_kind, kind_names}
 use Rattle.walrus_forms.specs.Values.{value_name}
@@ -12,7 +12,10 @@ use Rattle.walrus_forms.specs.declared.value.ValType.{ValType}
 use Rattle.walrus_forms.specs.declared.value.ValType.TheVariants.{I32, I64, F32, F64, V128, Ref}
 use Rattle.walrus_function_types.specs.FunctionTypes.{form_params, form_results, params_at, results_at}
 use Rattle.walrus_body_laws.specs.walrus_marks.walrus_instr.declared.seq.InstrSeqType.{InstrSeqType}
+use Rattle.walrus_body_laws.specs.walrus_marks.walrus_instr.declared.seq.InstrSeqType.TheVariants.{Simple, MultiValue}
 use Rattle.walrus_body_laws.specs.walrus_marks.Named.{items_of}
+use Rattle.walrus_named_bodies.specs.walrus_file_bodies.walrus_items_into.walrus_module_env.walrus_handler_types.walrus_body_steps.walrus_body_nesting.wasm_formats.declared.fault.Space.TheVariants as spaces
+use Rattle.walrus_named_bodies.specs.walrus_file_bodies.walrus_items_into.walrus_tables_into.walrus_sections.walrus_roots.Items.{item}
 use Rattle.walrus_body_laws.specs.walrus_marks.walrus_walks.Events.{Event, NamesType, block_names, events_of, val_names}
 use Rattle.walrus_named_bodies.specs.walrus_file_bodies.walrus_items_into.walrus_tables_into.walrus_sections.walrus_roots.declared.item.Item.{Item}
 use Rattle.walrus_types.specs.Items.{Item as TypeItem}
@@ -113,3 +116,23 @@ module _ (Good : Item → Type 0) where
       go : (o : Option TypeItem) → type_at t id ≡ o → option_and_then (λ (item : TypeItem). form_results item.kind.form) o ≡ Some rs → GoodValues rs
       go None at e = absurd cc
       go (Some x) at e = of_form x.kind.form (form_of t closed id x at) e
+
+-- ---- what value types and block types name are types: what makes those good serves
+
+module _ (P Q : Item → Type 0) (f : (id : ℕ) → P (item spaces.«Type» id) → Q (item spaces.«Type» id)) where
+  types_by : (ns : List ℕ) → GoodTypes P ns → GoodTypes Q ns
+  types_by [] h = tt
+  types_by (n ∷ ns) h = (f n h.0, types_by ns h.1)
+
+  pub values_by : (tys : List ValType) → GoodValues P tys → GoodValues Q tys
+  values_by tys h = kind_values Q tys (types_by (filter_map value_name tys) (values_kind P tys h))
+
+  pub block_by : (ty : InstrSeqType) → GoodBlock P ty → GoodBlock Q ty
+  block_by (Simple ty) h = of_written ty h
+    where
+      of_written : (o : Option ValType) → GoodBlock P (Simple o) → GoodBlock Q (Simple o)
+      of_written None h = tt
+      of_written (Some ty) h =
+          subst (λ (es : List Event). AllOf Q (items_of es)) (append-nil (val_names ty))
+          (values_by (ty ∷ []) (subst (λ (es : List Event). AllOf P (items_of es)) (sym (append-nil (val_names ty))) h))
+  block_by (MultiValue id) h = (f id h.0, tt)

@@ -1,5 +1,5 @@
 -- Lemmas: the locals of a module that was read.
-use Rattle.std.specs.Prelude.{ℕ, ◌≡◌, ◌⊎◌, ◌<◌, ◌+◌, true, List, [], ◌∷◌, ◌++◌, length, map, Some, None, slice_get, slice_index_or}
+use Rattle.std.specs.Prelude.{ℕ, ◌≡◌, ◌⊎◌, ◌<◌, ◌+◌, Bool, true, List, [], ◌∷◌, ◌++◌, length, map, Some, None, slice_get, slice_index_or}
 use Rattle.std.specs.List.{AllZip, range_with_len}
 use Rattle.std.specs.Option.{option_map}
 use Rattle.std.proofs.Common.{ap, sym, ◌∙◌, subst}
@@ -9,11 +9,12 @@ use Rattle.walrus_named_bodies.specs.walrus_file_bodies.walrus_body_trees.walrus
 use Rattle.walrus_named_bodies.specs.walrus_file_bodies.walrus_body_trees.walrus_body_nesting.wasm_body_grammar.wasm_grammar.Modules as grammar
 use Rattle.walrus_named_bodies.specs.walrus_file_bodies.walrus_body_trees.walrus_body_nesting.wasm_body_grammar.wasm_operators.Items.{Locals}
 use Rattle.walrus_named_bodies.specs.walrus_file_bodies.walrus_items_into.wasm_module_rules.wasm_modules.Modules.{around}
-use Rattle.walrus_named_bodies.specs.walrus_file_bodies.walrus_items_into.walrus_module_bodies.walrus_body_trees.walrus_meaning.walrus_local_function.walrus_body_locals.wasm_normal_form.Bodies.{is_used, new_number}
+use Rattle.walrus_named_bodies.specs.walrus_file_bodies.walrus_items_into.walrus_module_bodies.walrus_body_trees.walrus_meaning.walrus_local_function.walrus_body_locals.wasm_normal_form.Bodies.{is_used, locals_named, new_number}
 use Rattle.walrus_named_bodies.specs.walrus_file_bodies.walrus_items_into.walrus_module_bodies.walrus_body_trees.walrus_meaning.walrus_local_function.walrus_body_locals.wasm_normal_form.Locals.{Key}
 use Rattle.walrus_named_bodies.specs.walrus_file_bodies.walrus_items_into.walrus_module_bodies.walrus_body_trees.walrus_meaning.walrus_local_function.walrus_body_locals.wasm_normal_form.Normal.{normal_ops}
 use Rattle.walrus_named_bodies.specs.walrus_file_bodies.walrus_items_into.walrus_module_env.wasm_run_names.Picks.{block_pick}
-use Rattle.walrus_named_bodies.specs.walrus_file_bodies.walrus_items_into.walrus_module_bodies.walrus_body_trees.walrus_meaning.walrus_local_function.walrus_body_locals.Locals.{ids_from}
+use Rattle.walrus_named_bodies.specs.walrus_file_bodies.walrus_items_into.walrus_module_bodies.walrus_body_trees.walrus_meaning.walrus_local_function.walrus_body_locals.Locals.{ids_from, kept_ids}
+use Rattle.walrus_named_bodies.specs.walrus_file_bodies.walrus_items_into.walrus_module_bodies.walrus_body_trees.walrus_meaning.walrus_local_function.walrus_body_locals.Named.{kept_of}
 use Rattle.walrus_named_bodies.specs.walrus_file_bodies.walrus_body_trees.Laws.{meant, renamed}
 use Rattle.walrus_named_bodies.proofs.walrus_file_bodies.StopLemmas.{count_in}
 use Rattle.walrus_named_bodies.specs.walrus_file_bodies.Read.{ids_length}
@@ -38,7 +39,9 @@ use Rattle.walrus_parse_laws.specs.BodiesTexts.{MeansBody, ReadBodiesMeanTheirs,
 use Rattle.walrus_parse_laws.specs.Locals.{HasLocals, ReadBodiesHaveTheirLocals, keys_of, kept_numbers}
 use Rattle.walrus_parse_laws.proofs.LocalsBodyLemmas.{all_ids, all_numbers, arguments_are, locals_are}
 use Rattle.walrus_parse_laws.proofs.IdLemmas.{types_joined, types_of, types_same}
-use Rattle.walrus_parse_laws.proofs.LocalsRuleLemmas.{normal_below}
+use Rattle.walrus_parse_laws.proofs.LocalsRuleLemmas.{normal_below, normal_kept}
+use Rattle.walrus_parse_laws.proofs.ListLemmas.{AllOf}
+use Rattle.walrus_parse_laws.proofs.RankLemmas.{IsKept}
 use Rattle.walrus_parse_laws.proofs.LocalsStepLemmas.{LocalsIn, all_locals}
 
 some_is : {A : Type 0} (x y : A) → Some x ≡ Some y → x ≡ y
@@ -59,25 +62,28 @@ body_has m found final a is funcs bare b x k h =
     let many : length h.params ≡ length h.local.args.items = sym (ap length h.args ∙ ids_length (length h.before) h.params) in
     let operators : map meant (own_operators h.local) ≡ map (renamed (naming found b.number)) (normal_ops (block_pick a) (text_of x)) = ap (λ (l : LocalFunction). map meant (own_operators l)) (sym one) ∙ k.operators in
     let args = h.args in
-    let types : types_of m.locals ≡ types_of h.before ++ (h.params ++ (map (renamed_value (at found.types)) x.locals ++ types_of h.more)) =
-    types_same m.locals final.locals bare ∙ ap types_of h.locals ∙ types_joined h.before h.more (length h.before) (length h.before + length h.params) h.params (map (renamed_value (at final.ids.types)) x.locals)
-    ∙ ap (λ (i : Ids). types_of h.before ++ (h.params ++ (map (renamed_value (at i.types)) x.locals ++ types_of h.more))) (sym is) in
-    let ids : found.locals b.number ≡ ids_from (length h.before) h.params ++ ids_from (length h.before + length h.params) (map (renamed_value (at found.types)) x.locals) =
-    ap (λ (i : Ids). i.locals b.number) is ∙ h.ids ∙ ap (λ (i : Ids). ids_from (length h.before) h.params ++ ids_from (length h.before + length h.params) (map (renamed_value (at i.types)) x.locals)) (sym is) in
+    let types : types_of m.locals ≡ types_of h.before ++ (h.params ++ (kept_of h.kept (map (renamed_value (at found.types)) x.locals) ++ types_of h.more)) =
+    types_same m.locals final.locals bare ∙ ap types_of h.locals
+    ∙ types_joined h.before h.more (length h.before) (length h.before + length h.params) h.params (kept_of h.kept (map (renamed_value (at final.ids.types)) x.locals))
+    ∙ ap (λ (i : Ids). types_of h.before ++ (h.params ++ (kept_of h.kept (map (renamed_value (at i.types)) x.locals) ++ types_of h.more))) (sym is) in
+    let ids : found.locals b.number ≡ ids_from (length h.before) h.params ++ kept_ids (length h.before + length h.params) h.kept =
+    ap (λ (i : Ids). i.locals b.number) is ∙ h.ids in
     let below = normal_below a (length h.params) (block_pick a) x h.ruled in
+    let used = subst (λ (ks : List Bool). AllOf (IsKept (length h.params) ks) (locals_named (normal_ops (block_pick a) (text_of x)))) (sym h.kept_is)
+    (normal_kept a (length h.params) (block_pick a) x h.ruled final.ids.all_locals) in
     record {
       function = k.function;
       there = k.there;
       local = h.local;
       kind = k.kind ∙ ap (λ (l : LocalFunction). kinds.Local l) one;
       locals = subst (λ (n : ℕ). map (λ (y : Key). y.0) (used_locals m.locals h.local) ≡ map (λ (y : Key). y.0) (keys_of found a n x)) many
-          (locals_are m.locals h.local found a b.number x h.before h.more h.params args types ids below operators);
+          (locals_are m.locals h.local found a b.number x h.before h.more h.params h.kept h.many args types ids below used operators);
       arguments = subst (λ (n : ℕ). h.local.args.items ≡ map (naming found b.number Locals) (range_with_len 0 n)) many
-          (arguments_are m.locals h.local found a b.number x h.before h.more h.params args types ids below operators);
+          (arguments_are m.locals h.local found a b.number x h.before h.more h.params h.kept h.many args types ids below used operators);
       ids = subst (λ (n : ℕ). local_ids m.locals h.local ≡ map (naming found b.number Locals) (kept_numbers n (keys_of found a n x))) many
-          (all_ids m.locals h.local found a b.number x h.before h.more h.params args types ids below operators);
+          (all_ids m.locals h.local found a b.number x h.before h.more h.params h.kept h.many args types ids below used operators);
       numbers = subst (λ (n : ℕ). (o : ℕ) → (o < n) ⊎ (is_used (normal_ops (block_pick a) (text_of x)) o ≡ true) → slice_get (local_ids m.locals h.local) (new_number n (keys_of found a n x) o) ≡ Some (naming found b.number Locals o)) many
-          (all_numbers m.locals h.local found a b.number x h.before h.more h.params args types ids below operators);
+          (all_numbers m.locals h.local found a b.number x h.before h.more h.params h.kept h.many args types ids below used operators);
     }
 
 zipped : {A C : Type 0} (P Q R : A → C → Type 0) → ((x : A) (y : C) → P x y → Q x y → R x y) → (xs : List A) (ys : List C) → AllZip P xs ys → AllZip Q xs ys → AllZip R xs ys

@@ -98,15 +98,12 @@ items_below total (x ∷ xs) h =
 abbrev pub LocalsBelow : ℕ → Placed → Type 0
 LocalsBelow total o = AllOf (Below total) (flat_map local_in o.op.items)
 
-pub locals_below : (total : ℕ) (ops : List Placed) → AllOf (LocalsBelow total) ops → AllOf (Below total) (locals_named ops)
-locals_below total [] h = tt
-locals_below total (o ∷ ops) h = all_join (Below total) (flat_map local_in o.op.items) (locals_named ops) h.0 (locals_below total ops h.1)
+-- what holds of all locals of each operator holds of all that are named
+pub locals_all : (P : ℕ → Type 0) (ops : List Placed) → AllOf (λ (o : Placed). AllOf P (flat_map local_in o.op.items)) ops → AllOf P (locals_named ops)
+locals_all P [] h = tt
+locals_all P (o ∷ ops) h = all_join P (flat_map local_in o.op.items) (locals_named ops) h.0 (locals_all P ops h.1)
 
 -- ---- numbers that are all moved
-
-pub map_moved : (r : ℕ → ℕ) (first total : ℕ) → ((n : ℕ) → n < total → r n ≡ first + n) → (ns : List ℕ) → AllOf (Below total) ns → map r ns ≡ map (λ (n : ℕ). first + n) ns
-map_moved r first total h [] k = refl
-map_moved r first total h (n ∷ ns) k = ap (λ (m : ℕ). m ∷ map r ns) (h n k.0) ∙ ap (λ (l : List ℕ). (first + n) ∷ l) (map_moved r first total h ns k.1)
 
 pub has_moved : (first : ℕ) (ns : List ℕ) (k : ℕ) → has (map (λ (n : ℕ). first + n) ns) (first + k) ≡ has ns k
 has_moved first [] k = refl

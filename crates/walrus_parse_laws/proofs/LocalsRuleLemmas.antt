@@ -1,5 +1,5 @@
 -- Lemmas: a body that meets the rules names locals of its function alone, and so does its normal form.
-use Rattle.std.specs.Prelude.{ℕ, ◌≡◌, ◌+◌, true, nat_lt, List, [], ◌∷◌, length, map, Some, None}
+use Rattle.std.specs.Prelude.{ℕ, ◌≡◌, ◌+◌, Bool, true, nat_lt, List, [], ◌∷◌, length, map, Some, None}
 use Rattle.std.proofs.lemmas.Bool.{ltb-true}
 use Rattle.walrus_named_bodies.specs.walrus_file_bodies.walrus_body_trees.walrus_body_nesting.wasm_body_grammar.Bodies.{frames_of}
 use Rattle.walrus_named_bodies.specs.walrus_file_bodies.walrus_body_trees.walrus_body_nesting.wasm_body_grammar.Frames.{Frame, turned}
@@ -17,8 +17,10 @@ use Rattle.walrus_named_bodies.specs.walrus_file_bodies.walrus_body_trees.walrus
 use Rattle.walrus_named_bodies.specs.walrus_file_bodies.walrus_body_trees.walrus_body_nesting.wasm_body_grammar.wasm_operators.Operators.{flow_of}
 use Rattle.wasm_import_links.specs.wasm_ruled_modules.Rules.{AreOperators, IsBody}
 use Rattle.walrus_parse_laws.proofs.ListLemmas.{AllOf}
-use Rattle.walrus_parse_laws.proofs.LocalsNameLemmas.{Below, LocalBelow, LocalsBelow, NameBelow, items_below, locals_below}
+use Rattle.walrus_parse_laws.proofs.LocalsNameLemmas.{Below, LocalBelow, LocalsBelow, NameBelow, items_below, locals_all}
 use Rattle.walrus_parse_laws.proofs.LocalsNormalLemmas.{normal_ops_in}
+use Rattle.walrus_parse_laws.proofs.RankLemmas.{IsKept, all_named, named_kept, text_back, text_names}
+use Rattle.walrus_named_bodies.specs.walrus_file_bodies.walrus_items_into.walrus_module_bodies.walrus_body_trees.walrus_meaning.walrus_local_function.walrus_body_locals.Named.{kept_by}
 
 in_room : (a : Around) (locals labels : ℕ) (space : Space) (n : ℕ) → nat_lt n (room a locals labels space) ≡ true → LocalBelow locals space n
 in_room a locals labels Types n e = tt
@@ -49,4 +51,15 @@ pub normal_below : (a : Around) (params : ℕ) (pick : BlockType → BlockType) 
 normal_below a params pick x h =
     let total = params + length x.locals in
     let text = map (λ (o : grammar.Placed). placed o.op (Some o.place)) x.operators in
-    locals_below total (normal_ops pick text) (normal_ops_in (Below total) pick text (text_below a total _ x.operators h.operators))
+    locals_all (Below total) (normal_ops pick text) (normal_ops_in (Below total) pick text (text_below a total _ x.operators h.operators))
+
+-- of the locals that a body declares those are kept that its operators name, or all
+pub normal_kept : (a : Around) (params : ℕ) (pick : BlockType → BlockType) (x : grammar.Body) → IsBody a params x → (all : Bool)
+    → AllOf (IsKept params (kept_by all params (length x.locals) (map (λ (o : grammar.Placed). o.op) x.operators))) (locals_named (normal_ops pick (map (λ (o : grammar.Placed). placed o.op (Some o.place)) x.operators)))
+normal_kept a params pick x h all =
+    let total = params + length x.locals in
+    let text = map (λ (o : grammar.Placed). placed o.op (Some o.place)) x.operators in
+    let P = IsKept params (kept_by all params (length x.locals) (map (λ (o : grammar.Placed). o.op) x.operators)) in
+    let names = text_names (Below total) x.operators (text_below a total _ x.operators h.operators) in
+    let kept = all_named P (Below total) _ names (λ n e lt. named_kept all params (length x.locals) (map (λ (o : grammar.Placed). o.op) x.operators) n lt e) in
+    locals_all P (normal_ops pick text) (normal_ops_in P pick text (text_back P x.operators kept))

@@ -3,20 +3,22 @@ use Rattle.std.specs.Prelude.{ℕ, ◌≡◌, ◌≢◌, ◌+◌, Bool, List, []
 use Rattle.std.specs.List.{AllZip}
 use Rattle.std.proofs.Common.{ap, sym, ◌∙◌, subst, inl, inr}
 use Rattle.std.proofs.lemmas.Bool.{eq-eqb}
-use Rattle.std.proofs.lemmas.List.{append-nil, append_assoc, length-append}
+use Rattle.std.proofs.lemmas.List.{append-nil, append_assoc, length-append, length-map}
 use Rattle.std.proofs.lemmas.List.Elements.{All-head, All-tail}
-use Rattle.walrus_named_bodies.specs.walrus_file_bodies.walrus_body_trees.walrus_body_nesting.wasm_body_grammar.Bodies.{Parts, body_of, declared}
+use Rattle.walrus_named_bodies.specs.walrus_file_bodies.walrus_body_trees.walrus_body_nesting.wasm_body_grammar.Bodies.{Parts, body_of, declared, placed as placed_ops}
 use Rattle.walrus_named_bodies.specs.walrus_file_bodies.walrus_body_trees.walrus_body_nesting.wasm_body_grammar.Codes.{ReadsCodes}
 use Rattle.walrus_named_bodies.specs.walrus_file_bodies.walrus_body_trees.walrus_body_nesting.wasm_body_grammar.Laws.{BodiesReadOnce, ReadsBody}
 use Rattle.walrus_named_bodies.specs.walrus_file_bodies.walrus_body_trees.walrus_body_nesting.wasm_body_grammar.Rules.{Around}
 use Rattle.walrus_named_bodies.specs.walrus_file_bodies.walrus_body_trees.walrus_body_nesting.wasm_body_grammar.wasm_formats.wasm_features.declared.WasmFeatures.{WasmFeatures}
 use Rattle.walrus_named_bodies.specs.walrus_file_bodies.walrus_body_trees.walrus_body_nesting.wasm_body_grammar.wasm_formats.Formats.{Small}
 use Rattle.walrus_named_bodies.specs.walrus_file_bodies.walrus_body_trees.walrus_body_nesting.wasm_body_grammar.wasm_grammar.Modules as grammar
+use Rattle.walrus_named_bodies.specs.walrus_file_bodies.walrus_body_trees.walrus_body_nesting.wasm_body_grammar.wasm_operators.Operators.{Seen}
 use Rattle.wasm_import_links.specs.wasm_ruled_modules.Bodied.{body_is}
 use Rattle.wasm_import_links.specs.wasm_ruled_modules.Rules.{IsBody}
 use Rattle.walrus_named_bodies.specs.walrus_file_bodies.walrus_items_into.wasm_sections.Within.{ChunksFit}
 use Rattle.walrus_arena.specs.Arena.{Arena}
-use Rattle.walrus_named_bodies.specs.walrus_file_bodies.walrus_items_into.walrus_module_bodies.walrus_body_trees.walrus_meaning.walrus_local_function.walrus_body_locals.Locals.{ids_from, locals_from, with_more}
+use Rattle.walrus_named_bodies.specs.walrus_file_bodies.walrus_items_into.walrus_module_bodies.walrus_body_trees.walrus_meaning.walrus_local_function.walrus_body_locals.Locals.{ids_from, kept_ids, locals_from, with_more}
+use Rattle.walrus_named_bodies.specs.walrus_file_bodies.walrus_items_into.walrus_module_bodies.walrus_body_trees.walrus_meaning.walrus_local_function.walrus_body_locals.Named.{kept_by, kept_of}
 use Rattle.walrus_named_bodies.specs.walrus_file_bodies.walrus_items_into.walrus_module_bodies.walrus_body_trees.walrus_meaning.walrus_module.walrus_builder.Built.{contents}
 use Rattle.walrus_named_bodies.specs.walrus_file_bodies.Read.{Waits, coded_by, env_is, env_of, grows_none, others_keep, read_body_reads, step_filed, step_on}
 use Rattle.walrus_named_bodies.specs.walrus_file_bodies.walrus_body_trees.walrus_body_nesting.wasm_body_grammar.wasm_grammar.walrus_forms.Renaming.{at, renamed_value}
@@ -69,6 +71,7 @@ pub record Kept (n : ℕ) (old new : State) : Type 0 where
   pub slot : slice_index_or new.functions.slots n None ≡ slice_index_or old.functions.slots n None
   pub own : new.ids.locals n ≡ old.ids.locals n
   pub types : new.ids.types ≡ old.ids.types
+  pub all_locals : new.ids.all_locals ≡ old.ids.all_locals
   pub more : List Local
   pub locals : new.locals ≡ old.locals ++ more
 
@@ -78,6 +81,7 @@ module _ (file : FileEnv) (features : WasmFeatures) where
     slot = ap (λ (s : State). slice_index_or s.functions.slots n None) e;
     own = ap (λ (s : State). s.ids.locals n) e;
     types = ap (λ (s : State). s.ids.types) e;
+    all_locals = ap (λ (s : State). s.ids.all_locals) e;
     more = [];
     locals = ap (λ (s : State). s.locals) e ∙ sym (append-nil old.locals);
   }
@@ -89,13 +93,19 @@ module _ (file : FileEnv) (features : WasmFeatures) where
         own = later.own ∙ ap (λ (i : Ids). i.locals n) s.left.named ∙ others_keep b.number s.left.ids s.numbered.locals n apart
             ∙ ap (λ (i : Ids). i.locals n) s.arguments.named ∙ others_keep b.number (ids_from (length old.locals) s.params) old.ids.locals n apart;
         types = later.types ∙ ap (λ (i : Ids). i.types) s.left.named ∙ ap (λ (i : Ids). i.types) s.arguments.named;
+        all_locals = later.all_locals ∙ ap (λ (i : Ids). i.all_locals) s.left.named ∙ ap (λ (i : Ids). i.all_locals) s.arguments.named;
         more = locals_from (length old.locals) s.params ++ (locals_from (length s.named) s.left.tys ++ later.more);
         locals = joined old.locals (locals_from (length old.locals) s.params) (locals_from (length s.named) s.left.tys) later.more s.named mid.locals new.locals later.locals s.left.added s.arguments.added;
       }
 
 -- ---- bodies
 
--- the function of a body, once all are read: behind other locals stand those of its parameters, and those that the body declares
+-- the operators of a body that was parsed
+pub operators_of : (place : ℕ) (ops : List (ℕ × Seen)) → map (λ (o : grammar.Placed). o.op) (placed_ops place ops) ≡ map (λ (x : ℕ × Seen). x.1) ops
+operators_of place [] = refl
+operators_of place (x ∷ ops) = ap (λ (l : List Seen). x.1 ∷ l) (operators_of x.0 ops)
+
+-- the function of a body, once all are read: behind other locals stand those of its parameters, and of those that the body declares those that are kept
 pub record LocalsIn (final : State) (a : Around) (b : FunctionBody) (x : grammar.Body) : Type 0 where
   pub function : Function
   pub there : slice_index_or final.functions.slots b.number None ≡ Some function
@@ -104,9 +114,12 @@ pub record LocalsIn (final : State) (a : Around) (b : FunctionBody) (x : grammar
   pub before : List Local
   pub params : List ValType
   pub more : List Local
+  pub kept : List Bool
+  pub kept_is : kept ≡ kept_by final.ids.all_locals (length params) (length x.locals) (map (λ (o : grammar.Placed). o.op) x.operators)
+  pub many : length kept ≡ length x.locals
   pub args : local.args.items ≡ ids_from (length before) params
-  pub locals : final.locals ≡ before ++ (locals_from (length before) params ++ (locals_from (length before + length params) (map (renamed_value (at final.ids.types)) x.locals) ++ more))
-  pub ids : final.ids.locals b.number ≡ ids_from (length before) params ++ ids_from (length before + length params) (map (renamed_value (at final.ids.types)) x.locals)
+  pub locals : final.locals ≡ before ++ (locals_from (length before) params ++ (locals_from (length before + length params) (kept_of kept (map (renamed_value (at final.ids.types)) x.locals)) ++ more))
+  pub ids : final.ids.locals b.number ≡ ids_from (length before) params ++ kept_ids (length before + length params) kept
   pub ruled : IsBody a (length params) x
 
 module _ (stay : FoundTypesStay) (on : TablesGrowOn) (enter : EntryTypesGrow) (once : BodiesReadOnce) (file : FileEnv) (features : WasmFeatures) (a : Around) (count : ℕ → ℕ) where
@@ -125,8 +138,17 @@ module _ (stay : FoundTypesStay) (on : TablesGrowOn) (enter : EntryTypesGrow) (o
       let is : body_of parts ≡ x = once a (length s.params) b.chunk.place b.chunk.bytes.now (body_of parts) x own_reads file_reads in
       let types : s.numbered.types ≡ final.ids.types = sym (ap (λ (i : Ids). i.types) s.left.named) ∙ sym k.types in
       let tys = map (renamed_value (at s.numbered.types)) (declared it.0.runs) in
-      let own : List ValType = map (renamed_value (at final.ids.types)) x.locals in
-      let own_is : tys ≡ own = ap (λ (z : grammar.Body). map (renamed_value (at s.numbered.types)) z.locals) is ∙ ap (λ (ids : List ℕ). map (renamed_value (at ids)) x.locals) types in
+      let all : s.numbered.all_locals ≡ final.ids.all_locals = sym (ap (λ (i : Ids). i.all_locals) s.left.named) ∙ sym k.all_locals in
+      let seen = map (λ (y : ℕ × Seen). y.1) it.0.ops in
+      let kept : List Bool = kept_by s.numbered.all_locals (length s.params) (length (declared it.0.runs)) seen in
+      let kept_is : kept ≡ kept_by final.ids.all_locals (length s.params) (length x.locals) (map (λ (o : grammar.Placed). o.op) x.operators) =
+      ap (λ (c : Bool). kept_by c (length s.params) (length (declared it.0.runs)) seen) all
+      ∙ ap (kept_by final.ids.all_locals (length s.params) (length (declared it.0.runs))) (sym (operators_of it.0.place it.0.ops))
+      ∙ ap (λ (z : grammar.Body). kept_by final.ids.all_locals (length s.params) (length z.locals) (map (λ (o : grammar.Placed). o.op) z.operators)) is in
+      let named_many : length kept ≡ length (declared it.0.runs) = it.2.many ∙ length-map (declared it.0.runs) (renamed_value (at s.numbered.types)) in
+      let own : List ValType = kept_of kept (map (renamed_value (at final.ids.types)) x.locals) in
+      let own_is : kept_of kept tys ≡ own =
+      ap (kept_of kept) (ap (λ (z : grammar.Body). map (renamed_value (at s.numbered.types)) z.locals) is ∙ ap (λ (ids : List ℕ). map (renamed_value (at ids)) x.locals) types) in
       let sized : length s.named ≡ length old.locals + length s.params =
       ap length s.arguments.added ∙ length-append old.locals (locals_from (length old.locals) s.params) ∙ ap (λ (n : ℕ). length old.locals + n) (many_from (length old.locals) s.params) in
       let none = All-head (λ (c : FunctionBody). old.ids.locals c.number ≡ []) b bs w.no_locals in
@@ -140,12 +162,14 @@ module _ (stay : FoundTypesStay) (on : TablesGrowOn) (enter : EntryTypesGrow) (o
         before = old.locals;
         params = s.params;
         more = k.more;
+        kept = kept;
+        kept_is = kept_is;
+        many = named_many ∙ ap (λ (z : grammar.Body). length z.locals) is;
         args = s.args_are;
         locals = joined old.locals (locals_from (length old.locals) s.params) (locals_from (length old.locals + length s.params) own) k.more s.named new.locals final.locals k.locals
-            (it.2.added ∙ ap (λ (n : ℕ). s.named ++ locals_from n tys) sized ∙ ap (λ (l : List ValType). s.named ++ locals_from (length old.locals + length s.params) l) own_is) s.arguments.added;
-        ids = k.own ∙ ap (λ (i : Ids). i.locals b.number) it.2.named ∙ own_more b.number (ids_from (length s.named) tys) s.numbered.locals ∙ ap (λ (l : List ℕ). l ++ ids_from (length s.named) tys) given
-            ∙ ap (λ (n : ℕ). ids_from (length old.locals) s.params ++ ids_from n tys) sized
-            ∙ ap (λ (l : List ValType). ids_from (length old.locals) s.params ++ ids_from (length old.locals + length s.params) l) own_is;
+            (it.2.added ∙ ap (λ (n : ℕ). s.named ++ locals_from n (kept_of kept tys)) sized ∙ ap (λ (l : List ValType). s.named ++ locals_from (length old.locals + length s.params) l) own_is) s.arguments.added;
+        ids = k.own ∙ ap (λ (i : Ids). i.locals b.number) it.2.named ∙ own_more b.number (kept_ids (length s.named) kept) s.numbered.locals ∙ ap (λ (l : List ℕ). l ++ kept_ids (length s.named) kept) given
+            ∙ ap (λ (n : ℕ). ids_from (length old.locals) s.params ++ kept_ids n kept) sized;
         ruled = body_is a (length s.params) b.chunk.place b.chunk.bytes.now x file_reads;
       }
 

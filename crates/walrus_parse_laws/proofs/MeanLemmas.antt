@@ -18,7 +18,7 @@ use Rattle.wasm_import_links.specs.wasm_ruled_modules.Rules.{ReadModulesAreRuled
 use Rattle.walrus_named_bodies.specs.walrus_file_bodies.Laws.{BodiesReadFiles}
 use Rattle.walrus_named_bodies.specs.walrus_file_bodies.Ready.{bodies_in}
 use Rattle.walrus_named_bodies.specs.walrus_file_bodies.walrus_items_into.Laws.{FilledFunctionsStand, FilledModulesAreFiled, NamedLocalsCount, NamesLocals}
-use Rattle.walrus_named_bodies.specs.walrus_file_bodies.walrus_items_into.Numbers.{numbers_of, types_in}
+use Rattle.walrus_named_bodies.specs.walrus_file_bodies.walrus_items_into.Numbers.{AreNumbersOf, numbers_of, types_in}
 use Rattle.walrus_named_bodies.specs.walrus_file_bodies.walrus_items_into.walrus_functions_into.Bodies.{bodiless_from}
 use Rattle.walrus_named_bodies.specs.walrus_file_bodies.walrus_items_into.walrus_functions_into.declared.bodies.FunctionBody.{FunctionBody}
 use Rattle.walrus_named_bodies.specs.walrus_file_bodies.walrus_items_into.walrus_module_env.wasm_run_names.Picks.{block_pick}
@@ -66,7 +66,7 @@ use Rattle.walrus_parse_laws.proofs.ItemsSlotLemmas.{each_at, seen_at}
 use Rattle.walrus_parse_laws.specs.Locals.{ReadBodiesHaveTheirLocals, kept_numbers, typed}
 use Rattle.walrus_parse_laws.specs.BodiesTexts.{ReadBodiesMeanTheirs, naming, text_of}
 use Rattle.walrus_parse_laws.specs.Meant.{body_meant, picks}
-use Rattle.walrus_parse_laws.specs.Means.{AreApart, AreSized, HasIndices, HasLocals, HasNames, HasSequences, HasTypedLocals, HasTypesInOrder, LocalIs, ReadModulesMeanFiles, TypeIs, function_bodies, holder_of, kind_types, names_in, section_if}
+use Rattle.walrus_parse_laws.specs.Means.{AreApart, AreLocals, AreSized, HasIndices, HasLocals, HasNames, HasSequences, HasTypedLocals, HasTypesInOrder, ReadModulesMeanFiles, TypeIs, function_bodies, has_local, holder_of, kind_types, names_in, section_if}
 use Rattle.walrus_parse_laws.proofs.MeaningBodyLemmas.{BodyOf, all_have}
 use Rattle.walrus_parse_laws.proofs.MeaningFileLemmas.{picks_same, plain_same}
 use Rattle.walrus_parse_laws.proofs.MeaningFunctionLemmas.{BodyAt, EachHas, at_start, bodies_are, bodies_have, functions_same, has_at, has_from, heads_at, own_are, own_numbers}
@@ -118,7 +118,7 @@ abbrev made_by : Bool → Ids → List Given → List Given → List Given
 made_by wanted ids made names = sent_names false ids (if wanted then made else []) ++ sent_names wanted ids names
 
 -- but for locals each index of another space than types is its own id
-others_in : OrderedStay → (found numbers : Ids) (s : Sections) → numbers ≡ numbers_of s → found ≡ record numbers { locals = found.locals } → OthersStay (look_of (record found { locals = λ function. [] }))
+others_in : OrderedStay → (found numbers : Ids) (s : Sections) → AreNumbersOf s numbers → found ≡ record numbers { locals = found.locals } → OthersStay (look_of (record found { locals = λ function. [] }))
 others_in ordered found numbers s is same_but = ordered (record found { locals = λ function. [] }) (record {
   functions = (length s.functions.items, ap (λ (j : Ids). j.functions) all);
   tables = (length s.tables.items, ap (λ (j : Ids). j.tables) all);
@@ -130,11 +130,11 @@ others_in ordered found numbers s is same_but = ordered (record found { locals =
   locals = refl;
 })
   where
-    all : record found { locals = λ (function : ℕ). (let none : List ℕ = [] in none) } ≡ record (numbers_of s) { locals = λ (function : ℕ). (let none : List ℕ = [] in none) }
+    all : record found { locals = λ (function : ℕ). (let none : List ℕ = [] in none) } ≡ record (numbers_of s) { locals = λ (function : ℕ). (let none : List ℕ = [] in none); all_locals = numbers.all_locals }
     all = ap (λ (j : Ids). record j { locals = λ (function : ℕ). (let none : List ℕ = [] in none) }) (same_but ∙ ap (λ (j : Ids). record j { locals = found.locals }) is)
 
 -- each index has an id
-indices_in : (found numbers : Ids) (s : Sections) (bodies : List grammar.Body) → numbers ≡ numbers_of s → found ≡ record numbers { locals = found.locals }
+indices_in : (found numbers : Ids) (s : Sections) (bodies : List grammar.Body) → AreNumbersOf s numbers → found ≡ record numbers { locals = found.locals }
     → ((f : ℕ) → f < length s.functions.items → length (found.locals f) ≡ local_count (module_of (state_of s) bodies) f) → AreApart found → HasIndices (module_of (state_of s) bodies) found
 indices_in found numbers s bodies is same_but counted apart = record {
   functions = ap (λ (j : Ids). j.functions) all ∙ ap upto (sym many);
@@ -148,7 +148,7 @@ indices_in found numbers s bodies is same_but counted apart = record {
   apart = apart;
 }
   where
-    all : found ≡ record (numbers_of s) { locals = found.locals }
+    all : found ≡ record (numbers_of s) { locals = found.locals; all_locals = numbers.all_locals }
     all = same_but ∙ ap (λ (j : Ids). record j { locals = found.locals }) is
 
     many : length (module_of (state_of s) bodies).functions ≡ length s.functions.items
@@ -217,7 +217,7 @@ mean_files {B} have_items mean have_locals have_groups have_handlers are_linked 
     λ n g x there o.
     let k = at_zero (λ k. IsGiven h.bodied k x) n (has_at (λ k f y. IsGiven h.bodied k y) 0 file.functions n g x all_own there o) in
     let t = whole_at n g x there o in
-    subst (λ (z : Option Kind). AllZip (LocalIs m.locals) (found.locals n) (map (renamed_value (at found.types)) (kind_types z ++ x.locals))) (sym t.3)
+    subst (λ (z : Option Kind). AreLocals m.locals (has_local found.all_locals (length (kind_types z)) x) (found.locals n) (map (renamed_value (at found.types)) (kind_types z ++ x.locals))) (sym t.3)
     (owned_there h.bodied found m.types m.locals m.funcs.slots h.found_are bare_funcs bare_types bare_locals n (r g.ty) t.0.function x t.2 t.4.item t.0.there t.1 t.4.there t.4.kind_is k) in
     let fresh : AreFresh h.bodied.locals h.bodied.ids =
     all_fresh stay on enter once h.file features a (count_in s) s.code_start (length bytes) bs start h.bodied fit waits h.bodies_are
@@ -275,6 +275,7 @@ mean_files {B} have_items mean have_locals have_groups have_handlers are_linked 
           customs = [];
         };
         locals = λ n g x there o. (let b = own n g x there o in locals_at (parts m) found pick file n g x b.0 b.1);
+        wanted = ap (λ (j : Ids). j.all_locals) same_but ∙ h.wanted;
         typed_locals = owned;
         sequences = sequences;
         unshared = unshared_bare h.filled.globals.slots m.globals.slots (sym bare_globals)

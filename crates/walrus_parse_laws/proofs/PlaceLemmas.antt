@@ -14,44 +14,14 @@ use Rattle.walrus_parse_laws.proofs.KeyLemmas.{at_position, has, has_order, has_
 use Rattle.walrus_parse_laws.proofs.ListLemmas.{AllOf}
 use Rattle.walrus_parse_laws.proofs.LocalsNameLemmas.{Below}
 
--- ---- numbers of used locals are below the bound
-
-numbered_below : (total from : ℕ) (tys : List ValType) → from + length tys ≤ total → AllOf (Below total) (numbers (numbered from tys))
-numbered_below total from [] le = tt
-numbered_below total from (ty ∷ tys) le = (omega (arith, le), numbered_below total (suc from) tys (omega (arith, le)))
-
-pass_below : (test : ℕ → Bool) (total : ℕ) (ks : List Key) → AllOf (Below total) (numbers ks) → AllOf (Below total) (numbers (passing test ks))
-pass_below test total [] h = tt
-pass_below test total (k ∷ ks) h = go (test k.1) (pass_below test total ks h.1)
-  where
-    go : (b : Bool) → AllOf (Below total) (numbers (passing test ks)) → AllOf (Below total) (numbers (if b then k ∷ passing test ks else passing test ks))
-    go true later = (h.0, later)
-    go false later = later
-
-insert_below : (total : ℕ) (k : Key) (ks : List Key) → k.1 < total → AllOf (Below total) (numbers ks) → AllOf (Below total) (numbers (insert_key k ks))
-insert_below total k [] lt h = (lt, tt)
-insert_below total k (j ∷ js) lt h = go (is_less (key_cmp j k)) (insert_below total k js lt h.1)
-  where
-    go : (b : Bool) → AllOf (Below total) (numbers (insert_key k js)) → AllOf (Below total) (numbers (if b then j ∷ insert_key k js else k ∷ (j ∷ js)))
-    go true later = (h.0, later)
-    go false later = (lt, h)
-
-order_below : (total : ℕ) (ks : List Key) → AllOf (Below total) (numbers ks) → AllOf (Below total) (numbers (in_order ks))
-order_below total [] h = tt
-order_below total (k ∷ ks) h = insert_below total k (in_order ks) h.0 (order_below total ks h.1)
-
-pub used_below : (test : ℕ → Bool) (params : ℕ) (tys : List ValType) → AllOf (Below (params + length tys)) (numbers (in_order (passing test (numbered params tys))))
-used_below test params tys =
-    order_below (params + length tys) (passing test (numbered params tys)) (pass_below test (params + length tys) (numbered params tys) (numbered_below (params + length tys) params tys (omega arith)))
-
 -- ---- old numbers in the order of the new ones
 
-get_front : (xs ys : List ℕ) (n : ℕ) → n < length xs → slice_get (xs ++ ys) n ≡ slice_get xs n
+pub get_front : (xs ys : List ℕ) (n : ℕ) → n < length xs → slice_get (xs ++ ys) n ≡ slice_get xs n
 get_front [] ys n lt = absurd (omega (arith, lt))
 get_front (x ∷ xs) ys zero lt = refl
 get_front (x ∷ xs) ys (suc n) lt = get_front xs ys n (omega (arith, lt))
 
-get_behind : (xs ys : List ℕ) (i n : ℕ) → n ≡ length xs + i → slice_get (xs ++ ys) n ≡ slice_get ys i
+pub get_behind : (xs ys : List ℕ) (i n : ℕ) → n ≡ length xs + i → slice_get (xs ++ ys) n ≡ slice_get ys i
 get_behind [] ys i n e = ap (slice_get ys) (omega (arith, e))
 get_behind (x ∷ xs) ys i zero e = absurd (omega (arith, e))
 get_behind (x ∷ xs) ys i (suc n) e = get_behind xs ys i n (omega (arith, e))
@@ -83,23 +53,6 @@ has_below total (m ∷ ns) n h e = go (m == n) refl e (has_below total ns n h.1)
     go : (b : Bool) → (m == n) ≡ b → (b || has ns n) ≡ true → (has ns n ≡ true → n < total) → n < total
     go true same e later = subst (Below total) (eqb-true m n same) h.0
     go false same e later = later e
-
--- ---- ids in their order
-
-numbers_moved : (first : ℕ) (ks : List Key) → numbers (map (moved first) ks) ≡ map (λ (n : ℕ). first + n) (numbers ks)
-numbers_moved first [] = refl
-numbers_moved first (k ∷ ks) = ap (λ (l : List ℕ). (first + k.1) ∷ l) (numbers_moved first ks)
-
-named_so : (r : ℕ → ℕ) (first total : ℕ) → ((n : ℕ) → n < total → r n ≡ first + n) → (ns : List ℕ) → AllOf (Below total) ns → map (λ (n : ℕ). first + n) ns ≡ map r ns
-named_so r first total h [] k = refl
-named_so r first total h (n ∷ ns) k = ap (λ (m : ℕ). m ∷ map (λ (n : ℕ). first + n) ns) (sym (h n k.0)) ∙ ap (λ (l : List ℕ). r n ∷ l) (named_so r first total h ns k.1)
-
-pub ids_are : (r : ℕ → ℕ) (first total params : ℕ) → ((n : ℕ) → n < total → r n ≡ first + n) → (args : List ℕ) → args ≡ map r (range_with_len 0 params) → (keys : List Key) → AllOf (Below total) (numbers keys)
-    → args ++ numbers (map (moved first) keys) ≡ map r (range_with_len 0 params ++ numbers keys)
-ids_are r first total params h args given keys below =
-    ap (λ (l : List ℕ). l ++ numbers (map (moved first) keys)) given
-    ∙ ap (λ (l : List ℕ). map r (range_with_len 0 params) ++ l) (numbers_moved first keys ∙ named_so r first total h (numbers keys) below)
-    ∙ sym (map-append r (range_with_len 0 params) (numbers keys))
 
 pub got : (r : ℕ → ℕ) (olds : List ℕ) (i n : ℕ) → slice_get olds i ≡ Some n → slice_get (map r olds) i ≡ Some (r n)
 got r olds i n e = slice_get-map r olds i ∙ ap (option_map r) e

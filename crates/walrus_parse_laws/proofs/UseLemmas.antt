@@ -28,7 +28,7 @@ use Rattle.walrus_parse_laws.specs.FilledGroups.{ReadTypesAreDeclared}
 use Rattle.walrus_named_bodies.specs.walrus_file_bodies.walrus_body_trees.walrus_pairing.walrus_index_maps.Maps.{Ids}
 use Rattle.walrus_parse_laws.specs.Meaning.{OrderedStay, OthersStay}
 use Rattle.walrus_parse_laws.specs.Renamed.{retyped_element, retyped_global, retyped_segment, retyped_table, retyped_tag}
-use Rattle.walrus_named_bodies.specs.walrus_file_bodies.walrus_items_into.Numbers.{numbers_of, types_in}
+use Rattle.walrus_named_bodies.specs.walrus_file_bodies.walrus_items_into.Numbers.{AreNumbersOf, types_in}
 use Rattle.walrus_named_bodies.specs.walrus_file_bodies.walrus_items_into.walrus_tables_into.walrus_sections_into.walrus_known_sections.State.{state_of}
 use Rattle.walrus_named_bodies.specs.walrus_file_bodies.walrus_items_into.walrus_tables_into.walrus_sections_into.walrus_known_sections.declared.sections.Sections.{Sections}
 use Rattle.walrus_named_bodies.specs.walrus_file_bodies.walrus_items_into.walrus_module_bodies.walrus_body_trees.walrus_meaning.Bodies.{own_operators}
@@ -143,7 +143,7 @@ unmeant m [] h = tt
 unmeant m (o ∷ ops) h = (h.0, unmeant m ops h.1)
 
 -- of indices of a file types alone have other ids
-pub others_stay : OrderedStay → (s : Sections) (i : Ids) → i ≡ numbers_of s → OthersStay (look_of i)
+pub others_stay : OrderedStay → (s : Sections) (i : Ids) → AreNumbersOf s i → OthersStay (look_of i)
 others_stay ordered s i numbers = ordered i (record {
   functions = (length s.functions.items, ap (λ (j : Ids). j.functions) numbers);
   tables = (length s.tables.items, ap (λ (j : Ids). j.tables) numbers);

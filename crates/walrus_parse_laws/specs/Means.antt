@@ -1,8 +1,8 @@
 -- The module in memory that was read from a file, and the file's module.
-use Rattle.std.specs.Prelude.{ℕ, ◌≡◌, ◌<◌, ◌^◌, ◌||◌, Bool, false, List, [], ◌∷◌, ◌++◌, All, IfSome, codes, length, map, Option, Some, None, slice_get, if◌then◌else◌}
+use Rattle.std.specs.Prelude.{ℕ, ◌≡◌, ◌≢◌, ◌<◌, ◌^◌, ◌||◌, Bool, true, false, List, [], ◌∷◌, ◌++◌, All, IfSome, codes, length, map, replicate, Option, Some, None, slice_get, if◌then◌else◌}
 use Rattle.std.specs.BTreeMap.{is_at}
 use Rattle.std.specs.Cmp.Lexicographic.{slice_cmp}
-use Rattle.std.specs.List.{AllZip, flat_map}
+use Rattle.std.specs.List.{flat_map}
 use Rattle.std.specs.Ordering.{nat_cmp}
 use Rattle.walrus_named_bodies.specs.walrus_file_bodies.walrus_items_into.walrus_module_env.walrus_handler_types.walrus_body_steps.wasm_body_grammar.Codes.{param_count}
 use Rattle.walrus_named_bodies.specs.walrus_file_bodies.walrus_items_into.walrus_module_env.walrus_handler_types.walrus_body_steps.wasm_body_grammar.wasm_grammar.Modules as grammar
@@ -29,6 +29,8 @@ use Rattle.walrus_named_bodies.specs.walrus_file_bodies.walrus_items_into.walrus
 use Rattle.walrus_named_bodies.specs.walrus_file_bodies.walrus_items_into.walrus_module_bodies.walrus_body_trees.walrus_meaning.Bodies.{local_ids}
 use Rattle.walrus_named_bodies.specs.walrus_file_bodies.walrus_items_into.walrus_module_bodies.walrus_body_trees.walrus_meaning.Meaning.{means, slots_of, type_ids}
 use Rattle.walrus_body_laws.specs.walrus_pairing.walrus_index_maps.Maps.{Ids}
+use Rattle.walrus_body_laws.specs.walrus_pairing.walrus_index_maps.Runs.{nowhere}
+use Rattle.walrus_named_bodies.specs.walrus_file_bodies.walrus_items_into.walrus_module_bodies.walrus_body_trees.walrus_meaning.walrus_local_function.walrus_body_locals.Named.{kept_by}
 use Rattle.walrus_named_bodies.specs.walrus_file_bodies.walrus_items_into.walrus_module_bodies.walrus_body_trees.walrus_meaning.walrus_linked.Linked.{IsLinked}
 use Rattle.walrus_named_bodies.specs.walrus_item_names.walrus_module.walrus_module_items.declared.function.Function.{Function}
 use Rattle.walrus_named_bodies.specs.walrus_item_names.walrus_module.walrus_module_items.declared.function.FunctionKind.TheVariants as kinds
@@ -82,9 +84,10 @@ HasTypesInOrder file t found = (later : List ℕ) × (type_ids t ≡ upto (lengt
 
 -- no two locals have one id
 abbrev pub AreApart : Ids → Type 0
-AreApart found = (f g n k id : ℕ) → slice_get (found.locals f) n ≡ Some id → slice_get (found.locals g) k ≡ Some id → (f ≡ g) × (n ≡ k)
+AreApart found = (f g n k id : ℕ) → id ≢ nowhere → slice_get (found.locals f) n ≡ Some id → slice_get (found.locals g) k ≡ Some id → (f ≡ g) × (n ≡ k)
 
--- each index of the file has an id, which is itself, types and locals aside; a function has as many locals as in the file, each with an id of its own
+-- each index of the file has an id, which is itself, types and locals aside; a function has as many indices of locals as in the file, each with an id of its
+-- own where it names a local
 pub record HasIndices (file : grammar.Module) (found : Ids) : Type 0 where
   pub functions : found.functions ≡ upto (length file.functions)
   pub tables : found.tables ≡ upto (length file.tables)
@@ -111,9 +114,26 @@ kind_types (Some kind) = params_of kind.form
 abbrev pub param_types : grammar.Module → ℕ → List ValType
 param_types file ty = kind_types (slice_get (types_of file) ty)
 
--- the locals of a function of this type stand under their ids, parameters and then those that its body declares, each of its type, renamed
+-- which locals of a function of so many parameters the module has: these, and of those that its body declares those that its operators name, or all, where
+-- all are wanted
+abbrev pub has_local : Bool → ℕ → grammar.Body → List Bool
+has_local all params x = replicate params true ++ kept_by all params (length x.locals) (map (λ (o : grammar.Placed). o.op) x.operators)
+
+-- under the id stands the local of this type, where the module has it; else the id is that of none
+abbrev pub StandsIf : List Local → Bool → ℕ → ValType → Type 0
+StandsIf locals true id ty = LocalIs locals id ty
+StandsIf locals false id ty = id ≡ nowhere
+
+abbrev pub AreLocals : List Local → List Bool → List ℕ → List ValType → Type 0
+AreLocals locals [] ids tys = (ids ≡ []) × (tys ≡ [])
+AreLocals locals (k ∷ ks) [] tys = ⊥
+AreLocals locals (k ∷ ks) (id ∷ ids) [] = ⊥
+AreLocals locals (k ∷ ks) (id ∷ ids) (ty ∷ tys) = StandsIf locals k id ty × AreLocals locals ks ids tys
+
+-- the locals of a function of this type stand under their ids, parameters and then those that its body declares and the module has, each of its type, renamed
 abbrev pub HasTypedLocals : grammar.Module → List Local → Ids → (number ty : ℕ) → grammar.Body → Type 0
-HasTypedLocals file locals found number ty x = AllZip (LocalIs locals) (found.locals number) (map (renamed_value (at found.types)) (param_types file ty ++ x.locals))
+HasTypedLocals file locals found number ty x =
+    AreLocals locals (has_local found.all_locals (length (param_types file ty)) x) (found.locals number) (map (renamed_value (at found.types)) (param_types file ty ++ x.locals))
 
 -- in the module the locals of the function of this number, by their new numbers, have the ids that are named by its parameters, and then by
 -- the locals that its body uses, by type
@@ -210,6 +230,8 @@ pub record MeansFile {B : Type 0} (config : ModuleConfig) (file : grammar.Module
   pub meant : means (parts m) ≡ module_meant found (picks (read_features config) file) file (handler_kinds file)
   pub locals : (n : ℕ) (f : grammar.Function) (x : grammar.Body) → slice_get file.functions n ≡ Some (Some f) → f.origin ≡ grammar.Own x
       → HasLocals (parts m) found (picks (read_features config) file) n (param_count file f.ty) x
+  -- each local that a body declares has an id where synthetic names are asked for
+  pub wanted : found.all_locals ≡ config.generate_synthetic_names_for_anonymous_items
   pub typed_locals : (n : ℕ) (f : grammar.Function) (x : grammar.Body) → slice_get file.functions n ≡ Some (Some f) → f.origin ≡ grammar.Own x → HasTypedLocals file m.locals found n f.ty x
   -- their sequences stand as the file's bodies
   pub sequences : (n : ℕ) (f : grammar.Function) (x : grammar.Body) → slice_get file.functions n ≡ Some (Some f) → f.origin ≡ grammar.Own x

@@ -1,13 +1,14 @@
 //! Modules that are read are linked: what types name lives, and so does what indices name.
 
 ghost use Rattle.walrus_parse_laws.specs.Indices.{IndicesOfReadModulesLive};
-ghost use Rattle.walrus_parse_laws.specs.Linked.{ReadModulesAreLinked};
+ghost use Rattle.walrus_parse_laws.specs.Linked.{ReadModulesAreLinked, WalksOfReadBodiesNameLocals};
 ghost use Rattle.walrus_parse_laws.specs.Types.{NamesOfReadTypesLive};
 
 use crate::bodies::functions_of_read_modules_are_whole;
 use crate::filled::ordered_stay;
 use crate::filled_groups::read_types_are_declared;
 use crate::items::{names_of_read_items_live, read_modules_have_items, read_modules_have_links};
+use crate::locals::bodies_of_read_modules_have_their_locals;
 use walrus_body_laws::walking::{handlers_have_answers, walks_name_answers};
 use walrus_function_types::laws::{entry_types_grow, found_types_stay, tables_grow_on};
 use walrus_named_bodies::file_bodies::items_into::functions_into::types_into::laws::{
@@ -51,6 +52,13 @@ pub fn indices_of_read_modules_live<B>()
     tables_grow_on();
 }
 
+/// In a module that was read the walk of a body names locals of the module alone, though an index that no operator names has the id of none.
+pub fn walks_of_read_bodies_name_locals<B>()
+    ensures { WalksOfReadBodiesNameLocals B }
+{
+    bodies_of_read_modules_have_their_locals::<B>();
+}
+
 /// A module that was read is linked: each import names a live item that names it back, and each imported item a live import; functions are
 /// imported, or have a body of their arguments whose sequences form a tree; and what its types with their explicit groups, its items and
 /// bodies name, what it exports and what it starts lives.
@@ -70,4 +78,5 @@ pub fn modules_that_are_read_are_linked<B>()
     tables_grow_on();
     walks_name_answers();
     handlers_have_answers();
+    walks_of_read_bodies_name_locals::<B>();
 }

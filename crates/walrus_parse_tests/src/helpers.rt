@@ -45,6 +45,8 @@ pub(crate) enum Ask<'a> {
     Names(Called<'a>),
     /// the numbers of its locations
     Places(&'a [u32]),
+    /// how many locals it holds
+    Locals(usize),
     /// a start function
     Start,
 }
@@ -53,6 +55,7 @@ fn meets(alloc: Global, module: &Module<()>, ask: Ask<'_>) -> bool {
     match ask {
         Ask::Names(names) => are_called(module, names),
         Ask::Places(places) => are_at(alloc, module, places),
+        Ask::Locals(count) => module.locals.iter().as_slice().len() == count,
         Ask::Start => module.start.is_some(),
     }
 }

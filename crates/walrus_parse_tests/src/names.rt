@@ -1,6 +1,6 @@
 //! Names of a file, given to its items, and synthetic ones.
 
-use crate::files::{LOCALS, NAMED};
+use crate::files::{LOCALS, NAMED, TEN};
 use crate::helpers::{Ask, Call, Called, has, read_by};
 use std::alloc::Global;
 use walrus_config::ModuleConfig;
@@ -60,5 +60,24 @@ fn items_have_names(rt: HostRuntime) {
             second,
         };
         assert!(rt; gives(rt.alloc(), call, bytes, synthetic, names));
+    }
+}
+
+// Whether a module holds so many locals, once the file is read, with synthetic names or without.
+fn holds(alloc: Global, bytes: &[u8], synthetic: bool, count: usize) -> bool {
+    let mut config = ModuleConfig::new();
+    config.generate_synthetic_names_for_anonymous_items(synthetic);
+    has(
+        alloc,
+        read_by(alloc, Call::Parse, &config, bytes),
+        Ask::Locals(count),
+    )
+}
+
+#[test]
+fn locals_that_nothing_names_take_nothing(rt: HostRuntime) {
+    let rows = [(LOCALS, false, 1), (LOCALS, true, 2), (TEN, false, 10)];
+    for (bytes, synthetic, count) in rows {
+        assert!(rt; holds(rt.alloc(), bytes, synthetic, count));
     }
 }

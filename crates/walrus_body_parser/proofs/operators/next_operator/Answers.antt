@@ -2,7 +2,7 @@ use Rattle.std.proofs.Common.{Some}
 use Rattle.wasm_reader.specs.Cursor.{rest}
 use Rattle.walrus_operators.specs.Operators.{seen}
 use Rattle.walrus_body_operands.specs.Counted.{is_listed}
-use Rattle.walrus_body_parser.proofs.Takes.{operator_takes}
+use Rattle.walrus_body_locals.proofs.Taken.{operator_takes}
 use Rattle.walrus_body_parser.proofs.operators.next_operator.Goals as goal
 
 pub returns-in-Ok-clause-listed : goal.returns-in-Ok-clause-listed

@@ -2,9 +2,9 @@ use Rattle.std.proofs.Common.{false, true, refl}
 use Rattle.std.proofs.lemmas.Result.{err_from_is_err_and}
 use Rattle.walrus_body_operands.specs.walrus_body_rules.wasm_body_grammar.wasm_operators.declared.entry.Kind.TheVariants as kinds
 use Rattle.walrus_body_operands.specs.walrus_body_rules.wasm_body_grammar.wasm_operators.declared.entry.Flow.TheVariants as flows
-use Rattle.walrus_body_parser.specs.Classes.{always}
+use Rattle.walrus_body_locals.specs.Classes.{always}
 use Rattle.walrus_body_parser.specs.Trees.{validating}
-use Rattle.walrus_body_parser.specs.declared.class.Class.TheVariants as classes
+use Rattle.walrus_body_locals.specs.declared.class.Class.TheVariants as classes
 use Rattle.walrus_body_parser.proofs.Classes.{known_so, does_so, opens_so}
 use Rattle.walrus_body_parser.proofs.Running.{runs_more, runs_so, runs_fails}
 use Rattle.walrus_body_parser.proofs.operators.read_frequent.Goals as goal

@@ -1,6 +1,0 @@
-use Rattle.std.proofs.Common.{◌∙◌, sym}
-use Rattle.walrus_body_parser.proofs.Classes.{next_in}
-use Rattle.walrus_body_parser.proofs.class.next_class.Goals as goal
-
-pub returns-in-Some : goal.returns-in-Some
-returns-in-Some c = next_in c.args.reader.now _ c.in-Some.byte (sym c.in-Some.is ∙ c.peek.ensures) c.class_of.ensures

@@ -1,0 +1,5 @@
+mod Runs
+mod Places
+mod Texts
+mod Bodies
+mod Spellings

@@ -1,0 +1,4 @@
+pub mod Numbered
+pub mod Spelled
+pub mod Bodies
+pub mod Code

@@ -1,0 +1,3 @@
+mod CodeLemmas
+mod PlaceLemmas
+mod SectionLemmas

@@ -1,0 +1,5 @@
+pub mod Code
+pub mod Customs
+pub mod Found
+pub mod Labels
+pub mod Places

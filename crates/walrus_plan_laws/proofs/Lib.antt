@@ -1,0 +1,11 @@
+mod Lists
+mod Turns
+mod Slots
+mod Views
+mod Means
+mod Spaces
+mod Owns
+mod Counts
+mod Orders
+mod Bodies
+mod Plans

@@ -1,0 +1,5 @@
+pub mod Added
+pub mod Picks
+pub mod RootLists
+pub mod Segments
+pub mod Told
