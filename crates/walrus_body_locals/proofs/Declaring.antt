@@ -108,9 +108,9 @@ module _ (function : ℕ) (ty : ValType) (numbers : List ℕ) (first begin end :
                   s.behind,
                   r.1 ∙ ap (λ (l : List Bool). h.done ++ l) s.split ∙ sym (append_assoc h.done (replicate (n - from) false) (true ∷ s.behind)) ∙ sym (append_assoc before (true ∷ []) s.behind),
                   (let a = r.2 in
-                  let b = ap (λ (l : List Bool). length l) s.split ∙ length-append (replicate (n - from) false) (true ∷ s.behind) ∙ ap (λ (m : ℕ). m + suc (length s.behind)) (replicate_many (n - from) false) in
-                  let c = s.from_below in
-                  omega (arith, a, b, c)),
+                      let b = ap (λ (l : List Bool). length l) s.split ∙ length-append (replicate (n - from) false) (true ∷ s.behind) ∙ ap (λ (m : ℕ). m + suc (length s.behind)) (replicate_many (n - from) false) in
+                      let c = s.from_below in
+                      omega (arith, a, b, c)),
                   s.follow ∙ ap (λ (m : ℕ). kept_numbers m (s.behind ++ more)) (let z : suc n ≡ n + 1 = omega arith in z),
                 );
           }
@@ -133,10 +133,10 @@ module _ (function : ℕ) (ty : ValType) (numbers : List ℕ) (first begin end :
     run_ends none k e kept more are =
         let r = h.goes kept more are in
         let far : (n : ℕ) (rest : List ℕ) → drop place numbers ≡ n ∷ rest → from + length r.0 ≤ n = λ n rest at.
-            let stands = drop_head numbers place n rest at in
-            let le : end ≤ n = below_none n end (sym (ap (option_and_then (λ (k : ℕ). if nat_lt k end then Some k else None)) stands) ∙ none) in
-            let a = r.2 in
-            omega (arith, le, a) in
+        let stands = drop_head numbers place n rest at in
+        let le : end ≤ n = below_none n end (sym (ap (option_and_then (λ (k : ℕ). if nat_lt k end then Some k else None)) stands) ∙ none) in
+        let a = r.2 in
+        omega (arith, le, a) in
         let s = none_left from r.0 more (drop place numbers) r.3 far in
         let many : length r.0 ≡ end - from = (let a = r.2 in omega (arith, a)) in
         let all : kept ≡ h.done ++ replicate (end - from) false = r.1 ∙ ap (λ (l : List Bool). h.done ++ l) (s.0 ∙ ap (λ (m : ℕ). replicate m false) many) in

@@ -19,12 +19,7 @@ const FEW: usize = 16;
 
 // Notes the local of this number, if it is one of so many behind so many parameters.
 #[inline(always)]
-fn note(
-    numbers: &mut Vec<u32>,
-    params: u32,
-    count: u32,
-    number: u32,
-) -> Result<(), AllocError>
+fn note(numbers: &mut Vec<u32>, params: u32, count: u32, number: u32) -> Result<(), AllocError>
     ensures { OnOk result (Notes params count (number ∷ []) numbers.old.items numbers.new.items) }
 {
     if number < params {

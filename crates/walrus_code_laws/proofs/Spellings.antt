@@ -66,8 +66,7 @@ module _ (spelling : BodiesAreSpelled) (first : ArgumentsFirst) (others : Others
     kind_as (kinds.Local local) known stand bytes e =
         let params = param_count a.filled (r items.Types (type_of (kinds.Local local))) in
         let body = body_bytes a params (renumbered_body r (numbered_body (local_ids locals local) (own_body locals local))) in
-        let used = facts.used_locals.items in
-        (
+        let used = facts.used_locals.items in (
           body,
           refl,
           sized_as (contents locals facts.function local used i) body (spelling a params r i serves locals facts.function local used (known local refl) (stand local refl)) bytes e,
@@ -136,8 +135,7 @@ module _ (spelling : BodiesAreSpelled) (first : ArgumentsFirst) (others : Others
       let o = item_at functions f.function in
       let one = slot_as i serves f known.0 stand o refl front p.0 in
       let later = bodies_as fs (body_numbers locals functions i f) (serves_slot i serves f o) (slot_stands i serves f known.0 stand o refl front p.0) known.1 back p.1 in
-      let rest = filter_map own fs in
-      (
+      let rest = filter_map own fs in (
         sym (take-append-drop (length due) bytes) ∙ ap (λ (l : List ℕ). l ++ back) one.2 ∙ ap (λ (l : List ℕ). sized_bytes one.0 ++ l) later.0
             ∙ ap (λ (o : Option (List ℕ)). flat_map sized_bytes (cons_option o rest)) (sym one.1),
         ap (λ (o : Option (List ℕ)). length (cons_option o rest)) one.1 ∙ ap (λ (n : ℕ). suc n) later.1,

@@ -191,4 +191,3 @@ module _ (test : ℕ → Bool) where
   pub filter_rises : (k : ℕ) (ns : List ℕ) → RiseFrom k ns → RiseFrom k (filter test ns)
   filter_rises k [] h = tt
   filter_rises k (m ∷ ns) h = rises_one k m (filter test ns) (test m) h.0 (filter_rises (suc m) ns h.1)
-

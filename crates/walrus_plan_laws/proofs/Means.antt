@@ -98,8 +98,7 @@ module _ (a : Module) (linked : IsLinked a) where
         ap (λ (y : grammar.Item). slice_index_or (brings_of (means a) y.space) y.number None) (brought_is kind) ∙ import_same a (brought kind).space (brought kind).id ∙ named in
         subst (λ (y : grammar.Import). slice_index_or (brings_of (means a) y.item.space) y.item.number None ≡ Some i) h.1.1 at;
     told = λ space n i e.
-        let h = linked.imported (item space n) i (sym (import_same a space n) ∙ e) in
-        (
+        let h = linked.imported (item space n) i (sym (import_same a space n) ∙ e) in (
           own_import h.0,
           slot_at own_import a.imports.slots i ∙ ap (option_map own_import) h.1,
           brought_is h.0.kind ∙ ap seen_item h.2,

@@ -14,7 +14,7 @@ returns-in_err-count-clause-refused g c =
 pub loop-init : goal.loop-init
 loop-init g c =
     let F : List Run → Type 0 = λ own.
-        Going (run_told g.V.Validator.locals_step) c.args.params c.in_ok-count.count c.args.reader.now c.read_var_u32.new.self c.args.indices.now.types.items c.args.validator.now c.args.validator.now own c.args.params 0 in
+    Going (run_told g.V.Validator.locals_step) c.args.params c.in_ok-count.count c.args.reader.now c.read_var_u32.new.self c.args.indices.now.types.items c.args.validator.now c.args.validator.now own c.args.params 0 in
     subst F (sym c.new-runs.ensures.items)
     (going_start (run_told g.V.Validator.locals_step) c.args.params c.in_ok-count.count c.args.reader.now c.read_var_u32.new.self c.args.indices.now.types.items c.args.validator.now
     c.in_ok-count.ensures.value c.in_ok-count.ensures.moves)
@@ -47,8 +47,8 @@ returns-clause-moves g c = c.loop.invariant.moves
 pub loop-preserved : goal.loop-preserved
 loop-preserved g c =
     let F : List Run → Type 0 = λ own.
-        Going (run_told g.V.Validator.locals_step) c.args.params c.in_ok-count.count c.args.reader.now c.read_run.new.reader c.args.indices.now.types.items c.args.validator.now c.read_run.new.validator own
-        (c.loop.total + c.in_ok-more.more) (c.loop.counter + 1) in
+    Going (run_told g.V.Validator.locals_step) c.args.params c.in_ok-count.count c.args.reader.now c.read_run.new.reader c.args.indices.now.types.items c.args.validator.now c.read_run.new.validator own
+    (c.loop.total + c.in_ok-more.more) (c.loop.counter + 1) in
     subst F (sym c.in_ok-push.ensures.items)
     (going_on (run_told g.V.Validator.locals_step) c.args.params c.in_ok-count.count c.args.reader.now c.loop.reader c.read_run.new.reader c.args.indices.now.types.items
     c.args.validator.now c.loop.validator c.read_run.new.validator c.loop.runs.items c.loop.total c.loop.counter c.loop.invariant c.in_ok-more.more c.in_ok-more.ty c.in_ok-more.ensures.read c.in_ok-more.ensures.fits)
