@@ -55,8 +55,8 @@ equal_one Less = refl
 equal_one Equal = refl
 equal_one Greater = refl
 
-heads : (a b : ValType) (as bs : List ValType) → a ∷ as ≡ b ∷ bs → a ≡ b
-heads a b as bs e = cc
+heads : (a b : ValType) (xs ys : List ValType) → a ∷ xs ≡ b ∷ ys → a ≡ b
+heads a b xs ys e = cc
 
 tied_by : (a b : ValType) (c : Bool) → c ≡ true → declared_in (if c then (2, b) ∷ [] else (1, a) ∷ ((1, b) ∷ [])) ≡ a ∷ (b ∷ []) → a ≡ b
 tied_by a b true e d = sym (heads b a (b ∷ []) (b ∷ []) d)
