@@ -1,5 +1,5 @@
 -- Lemmas: the functions of a part that has all that lives.
-use Rattle.std.specs.Prelude.{ℕ, zero, suc, ◌+◌, ◌≡◌, List, [], ◌∷◌, ◌++◌, length, map, Option, Some, None, slice_index_or, refl}
+use Rattle.std.specs.Prelude.{ℕ, zero, suc, ◌+◌, ◌≡◌, List, [], ◌∷◌, ◌++◌, length, map, take, drop, Option, Some, None, slice_index_or, refl}
 use Rattle.std.specs.List.{AllByRecursion, cons_option, filter_map}
 use Rattle.std.specs.Option.{option_map}
 use Rattle.std.proofs.Common.{ap, sym, ◌∙◌, subst, arith}
@@ -29,10 +29,12 @@ use Rattle.walrus_meaning.specs.Bodies.{local_ids, own_body}
 use Rattle.walrus_meaning.specs.Meaning.{means, own_function, own_origin}
 use Rattle.walrus_emit_numbers.specs.declared.facts.BodyFacts.{BodyFacts}
 use Rattle.walrus_item_meaning.specs.Meaning.{slots_of}
+use Rattle.walrus_emit_code.specs.Code.{code}
 use Rattle.walrus_due_laws.specs.FunctionTypes.{HaveBodies}
 use Rattle.walrus_due_laws.specs.Listed.{OwnItemsStay}
 use Rattle.walrus_code_laws.specs.Numbered.{numbered_body, numbered_function, numbered_origin}
 use Rattle.walrus_code_laws.specs.Parts.{numbered}
+use Rattle.walrus_code_laws.proofs.Texts.{parts}
 use Rattle.walrus_places_laws.specs.Bodies.{no_place}
 use Rattle.walrus_places_laws.specs.Code.{CodePlacesArePairs, meant_at, meant_of}
 use Rattle.walrus_places_laws.specs.Part.{LocationsArePairs}
@@ -187,9 +189,13 @@ locations_pairs stay code_pairs a i p m facts s bytes due =
     ∙ sym (pairs_behind a at zs ys none) ∙ ap (λ (fs : List (Option Function)). functions_pairs no_place a at fs) (sym split)
 
 pub locations_places : WrittenPairsArePlaces → LocationsArePairs → LocationsArePlaces
-locations_places written_pairs pairs features i p m facts s bytes due normal k q stand same is n reads =
+locations_places written_pairs pairs features i p m facts s bytes front behind last due normal k q stand same is n reads =
     let a = around_written features k in
-    let left = pairs a i p m facts s bytes due in
+    let mine = code m.locals m.funcs i facts in
+    let most = parts (front ++ (mine ++ behind)) last bytes (sym due) in
+    let rest = parts front (mine ++ behind) (take (length (front ++ (mine ++ behind))) bytes) most.0 in
+    let own = drop (length front) (take (length (front ++ (mine ++ behind))) bytes) in
+    let left = pairs a i p m facts s (take (length mine) own) (parts mine behind own rest.1).0 in
     let equal : module_pairs no_place a (part p (numbered m)) ≡ module_pairs no_place a (part q normal) =
     ap (λ (fs : List (Option Function)). functions_pairs no_place a (length (unsigned_bytes (length (filter_map (own_bytes a) fs)))) fs) same in
     subst (λ (l : List (ℕ × ℕ)). ArePlaces no_place normal n q l) (sym (left ∙ equal)) (written_pairs no_place features normal k q stand is n reads)
