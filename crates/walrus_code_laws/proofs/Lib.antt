@@ -3,3 +3,4 @@ mod Places
 mod Texts
 mod Bodies
 mod Spellings
+mod Parts
