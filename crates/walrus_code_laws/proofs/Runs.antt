@@ -157,8 +157,7 @@ module _ (r : ℕ → ℕ) (types : ℕ → Option ℕ) (follows : (id n : ℕ) 
   written_by x xs (Ok ty) (Err z) ws is later e = absurd cc
   written_by x xs (Ok ty) (Ok us) ws is later e =
       let one = value_is x.1 ty is in
-      let rest = later us refl in
-      (
+      let rest = later us refl in (
         (one.0, rest.0),
         sym (ok_same (put x ty us) ws e) ∙ ap (λ (w : WrittenValue). put x w us) one.1
             ∙ ap (λ (l : List WrittenRun). put x (value_from (renamed_value r x.1)) l) rest.1,
