@@ -1,14 +1,12 @@
 -- Lemmas: the pairs that the writing of a body leaves.
 use Rattle.std.specs.Prelude.{ℕ, ◌+◌, ◌≡◌, List, ◌++◌, length, map, take, drop}
 use Rattle.std.proofs.Common.{ap, ◌∙◌}
-use Rattle.walrus_forms.specs.declared.value.ValType.{ValType}
 use Rattle.walrus_forms.specs.Renaming.{renamed_value}
 use Rattle.wasm_formats.specs.declared.fault.Limited.TheVariants.{Body as BodyLimit, Locals as LocalsLimit}
 use Rattle.wasm_operators.specs.Items.{Types}
 use Rattle.wasm_operators.specs.NameLaws.{after, same}
 use Rattle.wasm_operators.specs.Names.{Renaming}
 use Rattle.wasm_grammar.specs.Modules.{Placed as MeantOperator}
-use Rattle.wasm_body_grammar.specs.Rules.{Around}
 use Rattle.wasm_grammar_bytes.specs.Bodies.{runs_bytes}
 use Rattle.wasm_grammar_bytes.specs.Maximal.{maximal_of}
 use Rattle.wasm_normal_form.specs.Locals.{Key}
@@ -18,20 +16,17 @@ use Rattle.wasm_part.specs.Part.{renumbered_placed}
 use Rattle.wasm_ruled_renamed.specs.Bodies.{with_numbers}
 use Rattle.wasm_ruled_renamed.specs.Renamed.{renamed_placed}
 use Rattle.wasm_places_laws.specs.Pairs.{pairs_at}
-use Rattle.walrus_index_maps.specs.Maps.{Indices}
-use Rattle.walrus_items.specs.declared.local.Local.{Local}
 use Rattle.walrus_instr.specs.declared.seq.InstrSeq.{InstrSeq}
 use Rattle.walrus_pairing.specs.Looks.{Look, number_of}
 use Rattle.walrus_builder.specs.Functions.{seqs_of}
 use Rattle.walrus_tree.specs.Text.{operators}
 use Rattle.walrus_body_writer.specs.Spelled.{Text}
-use Rattle.walrus_local_function.specs.declared.local_function.LocalFunction.{LocalFunction}
 use Rattle.walrus_local_numbers.specs.Declared.{declared}
 use Rattle.walrus_local_numbers.specs.Laws.{ArgumentsFirst, OthersFollow}
 use Rattle.walrus_meaning.specs.Bodies.{depth_of, local_ids, own_operators, used_locals}
-use Rattle.walrus_body_laws.specs.EmissionLaws.{BodiesAreMeant, LocalsAreMeant, sent}
+use Rattle.walrus_body_laws.specs.EmissionLaws.{BodiesAreMeant, LocalsAreMeant}
 use Rattle.walrus_body_laws.specs.WritingLaws.{BytesAgree, PlacesAgree}
-use Rattle.walrus_emit_parts.specs.Due.{Due, limited, written}
+use Rattle.walrus_emit_parts.specs.Due.{Due, limited}
 use Rattle.walrus_emit_parts.proofs.Lemmas.{written_size}
 use Rattle.walrus_emit_code.specs.Code.{declarations, local_count, operators_due, with_locals}
 use Rattle.walrus_code_laws.proofs.Bodies.{limit_off, runs_as, sends, written_keys}

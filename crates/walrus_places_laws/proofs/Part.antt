@@ -1,5 +1,5 @@
 -- Lemmas: the functions of a part that has all that lives.
-use Rattle.std.specs.Prelude.{ℕ, zero, suc, ◌+◌, ◌≡◌, List, [], ◌∷◌, ◌++◌, length, map, take, drop, Option, Some, None, slice_index_or, refl}
+use Rattle.std.specs.Prelude.{ℕ, zero, suc, ◌≡◌, List, [], ◌∷◌, ◌++◌, length, map, take, drop, Option, Some, None, slice_index_or, refl}
 use Rattle.std.specs.List.{AllByRecursion, cons_option, filter_map}
 use Rattle.std.specs.Option.{option_map}
 use Rattle.std.proofs.Common.{ap, sym, ◌∙◌, subst, arith}
@@ -8,13 +8,13 @@ use Rattle.std.proofs.lemmas.List.Elements.{filter_map-append}
 use Rattle.wasm_operators.specs.Bytes.{unsigned_bytes}
 use Rattle.wasm_operators.specs.Items.{Functions, Types}
 use Rattle.wasm_operators.specs.Names.{Renaming}
-use Rattle.wasm_grammar.specs.Modules.{Origin, Imported, Own, Body, Function, Module}
+use Rattle.wasm_grammar.specs.Modules.{Origin, Imported, Own, Body, Function}
 use Rattle.wasm_body_grammar.specs.Codes.{own_type, param_count, type_if_own}
 use Rattle.wasm_body_grammar.specs.Rules.{Around}
 use Rattle.wasm_canonical.specs.Dense.{IsOwnFunction}
 use Rattle.wasm_canonical.specs.Due.{bodies_due, origin_bytes, own_bytes}
 use Rattle.wasm_part.specs.Order.{brought_by}
-use Rattle.wasm_part.specs.Part.{Plan, part, picked, renumbered_body, renumbered_function, renumbered_own}
+use Rattle.wasm_part.specs.Part.{part, picked, renumbered_body, renumbered_function, renumbered_own}
 use Rattle.wasm_places_laws.specs.Begun.{behind_origin, behind_slot, first_body}
 use Rattle.wasm_places_laws.specs.Pairs.{functions_pairs, module_pairs, origin_pairs, slot_pairs}
 use Rattle.wasm_places_laws.specs.Places.{WrittenPairsArePlaces, around_written}

@@ -1,14 +1,13 @@
 -- Lemmas: the pairs that the writing of bodies leaves, one behind another.
-use Rattle.std.specs.Prelude.{ℕ, suc, ◌+◌, ◌≡◌, List, [], ◌∷◌, ◌++◌, length, map, take, drop, Option, Some, None, refl}
+use Rattle.std.specs.Prelude.{ℕ, ◌+◌, ◌≡◌, List, [], ◌∷◌, ◌++◌, length, take, drop, Option, Some, None, refl}
 use Rattle.std.specs.List.{AllByRecursion}
 use Rattle.std.specs.Option.{option_map}
-use Rattle.std.proofs.Common.{ap, sym, ◌∙◌, arith}
+use Rattle.std.proofs.Common.{ap, ◌∙◌, arith}
 use Rattle.std.proofs.lemmas.List.{length-append}
 use Rattle.wasm_formats.specs.declared.fault.Space.TheVariants.{Function as FunctionSpace}
 use Rattle.wasm_operators.specs.Bytes.{unsigned_bytes}
 use Rattle.wasm_operators.specs.Items.{Types}
 use Rattle.wasm_operators.specs.Names.{Renaming}
-use Rattle.wasm_grammar.specs.Modules as grammar
 use Rattle.wasm_body_grammar.specs.Codes.{param_count}
 use Rattle.wasm_body_grammar.specs.Rules.{Around}
 use Rattle.wasm_grammar_bytes.specs.Shortest.{body_bytes}
@@ -28,10 +27,10 @@ use Rattle.walrus_module_items.specs.declared.function.FunctionKind.TheVariants 
 use Rattle.walrus_meaning.specs.Bodies.{local_ids, own_body}
 use Rattle.walrus_body_laws.specs.EmissionLaws.{LocalsAreMeant}
 use Rattle.walrus_emit_numbers.specs.declared.facts.BodyFacts.{BodyFacts}
-use Rattle.walrus_emit_parts.specs.Due.{Due, number, section, sized, written}
+use Rattle.walrus_emit_parts.specs.Due.{Due, number, sized, written}
 use Rattle.walrus_emit_parts.proofs.Lemmas.{written_size}
-use Rattle.walrus_emit_code.specs.Code.{bodies_due, body_due, body_numbers, code, contents, kind_due, slot_due}
-use Rattle.walrus_emit_code.specs.Places.{bodies_locations, kind_locations, located, locations, places_in, slot_locations}
+use Rattle.walrus_emit_code.specs.Code.{bodies_due, body_due, body_numbers, contents, kind_due, slot_due}
+use Rattle.walrus_emit_code.specs.Places.{bodies_locations, kind_locations, slot_locations}
 use Rattle.walrus_code_laws.specs.Bodies.{BodiesAreSpelled, IsKnown}
 use Rattle.walrus_code_laws.specs.Code.{BodiesHavePlaces, KnowsBody}
 use Rattle.walrus_code_laws.specs.Numbered.{numbered_body, numbered_function, numbered_origin}

@@ -17,7 +17,7 @@ use Rattle.walrus_instr.specs.declared.seq.InstrSeq.{InstrSeq}
 use Rattle.walrus_pairing.specs.Looks.{Look, Or}
 use Rattle.walrus_body_writer.specs.Spelled.{Text, pair_of, piece_bytes, text_places, written as written_piece}
 use Rattle.walrus_body_laws.specs.EmissionLaws.{sent}
-use Rattle.walrus_body_laws.specs.WritingLaws.{PlacesAgree, place_in, text_ops, true_pairs}
+use Rattle.walrus_body_laws.specs.WritingLaws.{PlacesAgree, text_ops, true_pairs}
 use Rattle.walrus_body_trees.specs.Laws.{place_at}
 use Rattle.walrus_emit_code.specs.Places.{has_location, located}
 use Rattle.walrus_places_laws.specs.Bodies.{no_place}
