@@ -3,3 +3,4 @@ mod Places
 pub mod Texts
 pub mod Bodies
 pub mod Spellings
+mod Parts
