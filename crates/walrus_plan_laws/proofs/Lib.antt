@@ -7,5 +7,8 @@ mod Spaces
 mod Owns
 mod Counts
 mod Orders
+mod Sizes
 mod Bodies
 mod Plans
+mod Fits
+mod Written

@@ -58,7 +58,7 @@ place_is (m ∷ ns) h (suc i) n e =
 slot_filled : {A : Type 0} (brings : A → Option ℕ) (xs : List (Option A)) (n k : ℕ) → slice_index_or (map (slot_import brings) xs) n None ≡ Some k → IsSome (live_at xs n)
 slot_filled brings [] n k e = absurd (none-some k e)
 slot_filled brings (None ∷ xs) zero k e = absurd (none-some k e)
-slot_filled brings (Some x ∷ xs) zero k e = tt
+slot_filled brings (Some x ∷ xs) zero k e = refl
 slot_filled brings (x ∷ xs) (suc n) k e = slot_filled brings xs n k e
 
 module _ {B : Type 0} (input : Module B) (facts : List BodyFacts) (order : List ℕ) (emitted : EmittedTypes) (ready : IsReady input facts order emitted) where
@@ -93,7 +93,7 @@ module _ {B : Type 0} (input : Module B) (facts : List BodyFacts) (order : List 
   element_ids = living m.elements
 
   link : ImportsLink m
-  link = links a ready.linked
+  link = links a ready.bound
 
   -- ---- emission's numbers are given one by one
 
@@ -135,7 +135,7 @@ module _ {B : Type 0} (input : Module B) (facts : List BodyFacts) (order : List 
   functions_have : (n : ℕ) (f : grammar.Function) → slice_index_or m.functions n None ≡ Some f → In (brings Functions ++ functions) n
   functions_have n f is =
       in_joined m link Functions refl functions own_functions n
-      (λ none. in_ordered facts order ready.sorted n (own_told a facts ready.known ready.linked n f is none))
+      (λ none. in_ordered facts order ready.sorted n (own_told a facts ready.known ready.bound n f is none))
 
   -- ---- the numbers of each space
 
@@ -233,7 +233,7 @@ module _ {B : Type 0} (input : Module B) (facts : List BodyFacts) (order : List 
   ordered_is : (space : Space) → IsListed space → (i j k n : ℕ) → i < j → slice_get (own_in m functions space) i ≡ Some k → slice_get (own_in m functions space) j ≡ Some n → OwnBefore m space k n
   ordered_is Types h i j k n lt e f = absurd h
   ordered_is Functions h i j k n lt e f =
-      functions_ordered facts order ready.sorted (size_of m) (told_sizes a facts ready.known ready.sizes) (told_fit a facts ready.known ready.fit) 0 (told_rise a facts ready.known) i j k n lt e f
+      functions_ordered facts order ready.sorted (size_of m) (told_sizes a facts ready.known) (told_fit a facts ready.known ready.fit) 0 (told_rise a facts ready.known) i j k n lt e f
   ordered_is Tables h i j k n lt e f = rises 0 table_ids (own_rises m link Tables refl m.tables) i j k n lt e f
   ordered_is Memories h i j k n lt e f = rises 0 memory_ids (own_rises m link Memories refl m.memories) i j k n lt e f
   ordered_is Tags h i j k n lt e f = rises 0 tag_ids (own_rises m link Tags refl m.tags) i j k n lt e f
@@ -300,8 +300,8 @@ module _ {B : Type 0} (input : Module B) (facts : List BodyFacts) (order : List 
       ap (λ (o : Option ℕ). unwrap_or o 0)
       (same_option (numbers.types.number id) (slice_index_or emitted.indices id None) (λ n e. (ready.types n id).0 (types_numbered.told id n e)) (λ n e. types_numbered.has id n ((ready.types n id).1 e)))
 
-pub emissions_have_plans : (B : Type 0) → EmissionsHavePlans B
-emissions_have_plans B input facts order emitted ready = record {
+pub emissions_have_plans : {B : Type 0} → EmissionsHavePlans B
+emissions_have_plans input facts order emitted ready = record {
   serves = record {
     follows = names_follow input facts order emitted ready;
     numbered = tables_live input facts order emitted ready;

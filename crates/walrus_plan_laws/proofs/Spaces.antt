@@ -20,7 +20,7 @@ none_of None e = refl
 none_of (Some x) e = absurd (true≢false (sym e))
 
 pub is_filled : {A : Type 0} (o : Option A) (x : A) → o ≡ Some x → IsSome o
-is_filled o x e = subst IsSome (sym e) tt
+is_filled o x e = subst IsSome (sym e) refl
 
 -- an id stands at its number
 pub at_number : (ids : List ℕ) (number : ℕ → Option ℕ) → AreNumbers ids number → (n : ℕ) → In ids n → slice_get ids (unwrap_or (number n) 0) ≡ Some n
