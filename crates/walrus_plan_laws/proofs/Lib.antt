@@ -12,3 +12,4 @@ mod Bodies
 mod Plans
 mod Fits
 mod Written
+mod Behind
