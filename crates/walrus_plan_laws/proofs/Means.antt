@@ -1,12 +1,12 @@
 -- Lemmas: what a module means links, and which items imports bring.
-use Rattle.std.specs.Prelude.{ℕ, zero, suc, ◌≡◌, ◌⊎◌, Bool, true, false, not, is_none, is_some, List, [], ◌∷◌, ◌++◌, map, filter, Option, Some, None, slice_get, slice_index_or, IsSome, refl, if◌then◌else◌}
-use Rattle.std.specs.List.{AllByRecursion, cons_option, filter_map}
+use Rattle.std.specs.Prelude.{ℕ, zero, suc, ◌≡◌, Bool, true, false, List, [], ◌∷◌, map, Option, Some, None, slice_index_or, refl, if◌then◌else◌}
+use Rattle.std.specs.List.{cons_option, filter_map}
 use Rattle.std.specs.Option.{option_and_then, option_map}
-use Rattle.std.proofs.Common.{ap, sym, ◌∙◌, subst, inl, inr}
+use Rattle.std.proofs.Common.{ap, sym, ◌∙◌, subst}
 use Rattle.std.proofs.lemmas.Option.{cond_some, none-some, same_Some}
 use Rattle.wasm_formats.specs.declared.fault.Space.{Space as FileSpace}
 use Rattle.wasm_formats.specs.declared.fault.Space.TheVariants as spaces
-use Rattle.wasm_operators.specs.Items.{Space, Types, Functions, Tables, Memories, Tags, Globals, ElementSegments, DataSegments, Locals, Labels}
+use Rattle.wasm_operators.specs.Items.{Space, Functions, Tables, Memories, Tags, Globals}
 use Rattle.wasm_grammar.specs.Modules as grammar
 use Rattle.wasm_body_grammar.specs.Rules.{space_of}
 use Rattle.wasm_import_links.specs.Links.{ImportsLink, function_brought, global_brought, memory_brought, origin_import, slot_import, table_brought, tag_brought, brought as brings_of}
@@ -35,7 +35,7 @@ use Rattle.walrus_roots.specs.Items.{item}
 use Rattle.walrus_plan_laws.specs.Emissions.{IsBound}
 use Rattle.walrus_plan_laws.specs.Plans.{living}
 use Rattle.walrus_plan_laws.proofs.Lists.{Apart, In, apart_given, given_in, in_given, rise_apart}
-use Rattle.walrus_plan_laws.proofs.Slots.{has_living, living_has, living_rises, slot_at}
+use Rattle.walrus_plan_laws.proofs.Slots.{living_has, living_rises, slot_at}
 
 -- ---- the import that an item says brings it
 

@@ -1,11 +1,10 @@
 -- Lemmas: emission's numbers are those of its plan.
-use Rattle.std.specs.Prelude.{ℕ, zero, suc, ◌+◌, ◌<◌, ◌≡◌, ◌⊎◌, ◌==◌, Bool, List, [], ◌∷◌, ◌++◌, map, fold, Contains, Option, Some, None, IsSome, slice_get, slice_index_or, refl, if◌then◌else◌}
+use Rattle.std.specs.Prelude.{ℕ, zero, suc, ◌+◌, ◌<◌, ◌≡◌, Bool, List, [], ◌∷◌, ◌++◌, map, fold, Contains, Option, Some, None, IsSome, slice_get, slice_index_or, refl, if◌then◌else◌}
 use Rattle.std.specs.List.{AllByRecursion}
 use Rattle.std.specs.Option.{unwrap_or}
-use Rattle.std.proofs.Common.{ap, sym, ◌∙◌, subst, arith, append-nil, inl, inr}
-use Rattle.std.proofs.lemmas.Bool.{cases_eq, eq-eqb, ne_eqb}
+use Rattle.std.proofs.Common.{ap, sym, ◌∙◌, subst, arith, append-nil}
+use Rattle.std.proofs.lemmas.Bool.{eq-eqb, ne_eqb}
 use Rattle.std.proofs.lemmas.Option.{none-some, same_Some}
-use Rattle.wasm_formats.specs.declared.fault.Space.TheVariants as spaces
 use Rattle.wasm_operators.specs.Items.{Space, Types, Functions, Tables, Memories, Tags, Globals, ElementSegments, DataSegments, Locals, Labels}
 use Rattle.wasm_grammar.specs.Modules as grammar
 use Rattle.wasm_import_links.specs.Links.{ImportsLink, slot_import, table_brought}
@@ -13,7 +12,6 @@ use Rattle.wasm_canonical.specs.Dense.{IsOwnFunction}
 use Rattle.wasm_part.specs.Closed.{IsListed}
 use Rattle.wasm_part.specs.Order.{InOrder, OwnBefore, brought_by, import_of, size_of}
 use Rattle.wasm_part.specs.Part.{Plan}
-use Rattle.walrus_arena.specs.Arena.{entries_from}
 use Rattle.walrus_index_maps.specs.Maps.{Indices, Numbering, no_indices, unnumbered}
 use Rattle.walrus_pairing.specs.Looks.{number_of}
 use Rattle.walrus_forms.specs.Renaming.{index_at}
@@ -23,17 +21,16 @@ use Rattle.walrus_module.specs.declared.module.Module.{Module}
 use Rattle.walrus_module.specs.Parts.{parts, Module as Parts}
 use Rattle.walrus_module.specs.walrus_collections.LookUps.{items}
 use Rattle.walrus_module_items.specs.declared.data.Data.{Data}
-use Rattle.walrus_module_items.specs.declared.import.Import.{Import}
 use Rattle.walrus_meaning.specs.Meaning.{means}
 use Rattle.walrus_emit_numbers.specs.declared.facts.BodyFacts.{BodyFacts}
-use Rattle.walrus_emit_numbers.specs.Numbers.{data_from, element_numbered, function_in_turn, functions_at, import_in_turn, memory_in_turn, numbers_of, table_in_turn, tag_in_turn, global_in_turn, element_in_turn, type_in_turn, own_global, own_memory, own_table, own_tag}
+use Rattle.walrus_emit_numbers.specs.Numbers.{data_from, element_numbered, function_in_turn, functions_at, import_in_turn, memory_in_turn, numbers_of, table_in_turn, tag_in_turn, global_in_turn, type_in_turn, own_global, own_memory, own_tag}
 use Rattle.walrus_due_laws.specs.Listed.{LivingAreListed}
 use Rattle.walrus_due_laws.specs.Spelled.{Follows}
 use Rattle.walrus_plan_laws.specs.Plans.{living, new_numbers, own_in, own_of, place_in, plan_of}
 use Rattle.walrus_plan_laws.specs.Emissions.{EmissionsHavePlans, IsReady}
 use Rattle.walrus_plan_laws.proofs.Bodies.{own_told, told_fit, told_import, told_own, told_rise, told_sizes}
-use Rattle.walrus_plan_laws.proofs.Lists.{Apart, In, RiseFrom, all_in, apart_told, contains_at, rise_apart, rises}
-use Rattle.walrus_plan_laws.proofs.Means.{IsBrought, links, none_brought}
+use Rattle.walrus_plan_laws.proofs.Lists.{Apart, In, all_in, apart_told, contains_at, rise_apart, rises}
+use Rattle.walrus_plan_laws.proofs.Means.{links, none_brought}
 use Rattle.walrus_plan_laws.proofs.Orders.{functions_ordered, in_ordered, ordered_apart, ordered_in}
 use Rattle.walrus_plan_laws.proofs.Owns.{elements_own, globals_own, imports_bring, memories_own, segments_own, tables_own, tags_own}
 use Rattle.walrus_plan_laws.proofs.Slots.{has_living, living_has, living_rises}

@@ -2,7 +2,7 @@
 use Rattle.std.specs.Prelude.{ℕ, ◌+◌, ◌≡◌, List, [], ◌∷◌, map, Option, Some, None, Ok, Err, refl}
 use Rattle.std.proofs.Common.{ap, sym, ◌∙◌}
 use Rattle.wasm_operators.specs.Operators.{Seen}
-use Rattle.wasm_operators.specs.Table.{structure_rows, call_rows, plain_rows, fb_rows, fc_rows, fd_rows, fe_rows}
+use Rattle.wasm_operators.specs.Table.{structure_rows, call_rows, plain_rows, fb_rows}
 use Rattle.wasm_normal_form.specs.Normal.{size}
 use Rattle.wasm_normal_form.specs.Roles.{role, weight_of}
 use Rattle.wasm_ruled_normal.specs.Normal.{text_of}

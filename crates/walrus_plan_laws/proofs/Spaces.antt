@@ -1,9 +1,9 @@
 -- Lemmas: a space whose items imports bring, and then the module's own.
-use Rattle.std.specs.Prelude.{ℕ, zero, suc, ◌≡◌, ◌⊎◌, Bool, true, false, not, is_none, is_some, List, [], ◌∷◌, ◌++◌, filter, Option, Some, None, slice_get, slice_index_or, IsSome, refl}
+use Rattle.std.specs.Prelude.{ℕ, ◌≡◌, ◌⊎◌, true, is_none, List, ◌++◌, Option, Some, None, slice_get, slice_index_or, IsSome, refl}
 use Rattle.std.specs.List.{AllByRecursion}
 use Rattle.std.specs.Option.{unwrap_or}
 use Rattle.std.proofs.Common.{ap, sym, ◌∙◌, subst, inl, inr, true≢false}
-use Rattle.std.proofs.lemmas.Option.{none-some, same_Some}
+use Rattle.std.proofs.lemmas.Option.{none-some}
 use Rattle.wasm_operators.specs.Items.{Space}
 use Rattle.wasm_grammar.specs.Modules.{Module}
 use Rattle.wasm_import_links.specs.Links.{ImportsLink}
