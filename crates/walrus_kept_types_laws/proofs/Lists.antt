@@ -8,31 +8,31 @@ use Rattle.std.proofs.lemmas.List.FromFn.{length-range_with_len}
 use Rattle.std.proofs.lemmas.Option.{get_or_from_slice_get, none-some, same_Some, slice_get_within}
 use Rattle.walrus_forms.proofs.RenamingLemmas.{In}
 use Rattle.walrus_types.proofs.Places.{Has, Once, at_map, map_at, range_at, same_list}
-use Rattle.walrus_kept_types_laws.specs.Placed.{place_of}
+use Rattle.walrus_kept_types_laws.specs.Placed.{place_among}
 
 -- ---- places
 
-pub place_at : (ids : List ℕ) → Once ids → (k id : ℕ) → slice_get ids k ≡ Some id → place_of ids id ≡ k
+pub place_at : (ids : List ℕ) → Once ids → (k id : ℕ) → slice_get ids k ≡ Some id → place_among ids id ≡ k
 place_at [] once k id at = absurd (none-some id at)
 place_at (n ∷ ns) once zero id at =
     let e : n ≡ id = same_Some n id at in
-    ap (λ (b : Bool). if b then 0 else suc (place_of ns id)) (eq-eqb n id e)
+    ap (λ (b : Bool). if b then 0 else suc (place_among ns id)) (eq-eqb n id e)
 place_at (n ∷ ns) once (suc k) id at =
     let apart : n ≡ id → ⊥ = λ e. omega (arith, once 0 (suc k) id (ap Some e) at) in
-    ap (λ (b : Bool). if b then 0 else suc (place_of ns id)) (ne_eqb n id apart)
+    ap (λ (b : Bool). if b then 0 else suc (place_among ns id)) (ne_eqb n id apart)
     ∙ ap suc (place_at ns (λ p q x at_p at_q. let e = once (suc p) (suc q) x at_p at_q in omega (arith, e)) k id at)
 
-pub has_place : (ids : List ℕ) → Once ids → (id : ℕ) → Has ids id → slice_get ids (place_of ids id) ≡ Some id
+pub has_place : (ids : List ℕ) → Once ids → (id : ℕ) → Has ids id → slice_get ids (place_among ids id) ≡ Some id
 has_place ids once id h = ap (λ (k : ℕ). slice_get ids k) (place_at ids once h.0 id h.1) ∙ h.1
 
-pub all_places : (ids : List ℕ) → Once ids → map (place_of ids) ids ≡ range_with_len 0 (length ids)
+pub all_places : (ids : List ℕ) → Once ids → map (place_among ids) ids ≡ range_with_len 0 (length ids)
 all_places ids once =
-    same_list (map (place_of ids) ids) (range_with_len 0 (length ids))
+    same_list (map (place_among ids) ids) (range_with_len 0 (length ids))
     (λ i x at.
-        let m = map_at (place_of ids) ids i x at in
+        let m = map_at (place_among ids) ids i x at in
         let e : 0 + i ≡ x = (let z : 0 + i ≡ i = omega arith in z) ∙ sym (place_at ids once i m.0 m.1) ∙ m.2 in
         range_at 0 (length ids) i (slice_get_within ids i m.0 m.1) ∙ ap Some e)
-    (length-map ids (place_of ids) ∙ sym (length-range_with_len 0 (length ids)))
+    (length-map ids (place_among ids) ∙ sym (length-range_with_len 0 (length ids)))
 
 -- ---- maps
 
@@ -84,6 +84,16 @@ pub in_split : (xs ys : List ℕ) (m : ℕ) → In m (xs ++ ys) → In m xs ⊎ 
 in_split [] ys m h = inr h
 in_split (x ∷ xs) ys m (inl e) = inl (inl e)
 in_split (x ∷ xs) ys m (inr h) = elim (in_split xs ys m h) as (λ _. In m (x ∷ xs) ⊎ In m ys) [ inl i ↦ inl (inr i) | inr i ↦ inr i ]
+
+pub in_has : (xs : List ℕ) (m : ℕ) → In m xs → Has xs m
+in_has [] m i = absurd i
+in_has (x ∷ xs) m (inl e) = (0, ap Some e)
+in_has (x ∷ xs) m (inr i) = let h = in_has xs m i in (suc h.0, h.1)
+
+pub has_in : (xs : List ℕ) (k m : ℕ) → slice_get xs k ≡ Some m → In m xs
+has_in [] k m at = absurd (none-some m at)
+has_in (x ∷ xs) zero m at = inl (same_Some x m at)
+has_in (x ∷ xs) (suc k) m at = inr (has_in xs k m at)
 
 pub flat_append : {X Y : Type 0} (f : X → List Y) (xs ys : List X) → flat_map f (xs ++ ys) ≡ flat_map f xs ++ flat_map f ys
 flat_append f [] ys = refl

@@ -20,7 +20,7 @@ use Rattle.walrus_types.proofs.OnceLemmas.{is_shown, some_is, written_place}
 use Rattle.walrus_types.proofs.Places.{Has, Once, at_map, contains_has, has_contains, map_at, maps_agree, maps_twice, seat}
 use Rattle.walrus_type_laws.specs.Alike.{AreHomed, renamed_group}
 use Rattle.walrus_type_laws.proofs.Written.{AllWritten, Indexed, filter_all, home_written, indexed, types_of, written_all}
-use Rattle.walrus_kept_types_laws.specs.Placed.{place_of, placed_indices, placed_table}
+use Rattle.walrus_kept_types_laws.specs.Placed.{place_among, placed_indices, placed_table}
 use Rattle.walrus_kept_types_laws.proofs.Lists.{any_mapped, at_found, filter_mapped, found_at, found_mapped, get_mapped, has_place, in_split, place_at}
 
 entries_all : (f : Group → Group) (n : ℕ) (gs : List Group) → map (λ (e : ℕ × Group). e.1) (entries_from n (map (λ (g : Group). Some (f g)) gs)) ≡ map f gs
@@ -29,7 +29,7 @@ entries_all f n (g ∷ gs) = ap (λ (l : List Group). f g ∷ l) (entries_all f 
 
 module _ (t : Table) (ids : List ℕ) (once : Once ids) (has : (id : ℕ) → is_written t id ≡ true → Has ids id) where
   abbrev r : ℕ → ℕ
-  r = place_of ids
+  r = place_among ids
 
   abbrev u : Table
   u = placed_table ids t
