@@ -33,9 +33,9 @@ order_is t grouped out indices order e inverse =
     same_gets order (written_types t e.groups) (λ i x at. (own i x).1 ((inverse i x).0 at)) (λ i x at. (inverse i x).1 ((own i x).0 at))
 
 pub read_written : {B : Type 0} → ReadTypesAreRead B → KeptTypesAreWritten → ReadTypesAreWritten B
-read_written are_read written config bytes m found file is reads h grouped stays t left rest out indices order e inverse =
+read_written are_read written config bytes m found file is reads h grouped t left rest out indices order e inverse =
     let r = are_read config bytes m found file is reads h grouped in
     let v : Numbered = file_seen place_of (read_features config) (handler_groups file) file in
     let ids : List ℕ = type_ids m.types in
-    let w = written stays m.types t v r.are left rest (sym r.groups) refl out indices e in
+    let w = written m.types t v r.are left rest (sym r.groups) refl out indices e in
     subst (λ (l : List ℕ). WritesTypes v (placed_table ids t) out (placed_indices ids indices) (map (place_among ids) l)) (sym (order_is t left out indices order e inverse)) w

@@ -1,7 +1,7 @@
 -- Lemmas: the types of a module that was read: those of its file under the ids 0, 1 and on, and those of handlers, each of which names types of the file alone.
-use Rattle.std.specs.Prelude.{ℕ, zero, suc, ◌≡◌, ◌≤◌, ◌<◌, ◌+◌, ◌&&◌, ◌⊎◌, inl, inr, Bool, true, false, not, List, [], ◌∷◌, ◌++◌, Contains, filter, length, map, Option, Some, None, is_some, slice_get, refl, if◌then◌else◌}
+use Rattle.std.specs.Prelude.{ℕ, zero, suc, ◌≡◌, ◌≤◌, ◌<◌, ◌+◌, ◌&&◌, Bool, true, false, not, List, [], ◌∷◌, ◌++◌, Contains, filter, length, map, Option, Some, None, is_some, slice_get, refl, if◌then◌else◌}
 use Rattle.std.specs.List.{AllByRecursion, flat_map}
-use Rattle.std.proofs.Common.{ap, sym, subst, ◌∙◌, arith, append-nil}
+use Rattle.std.proofs.Common.{inl, inr, ap, sym, subst, ◌∙◌, arith, append-nil}
 use Rattle.std.proofs.lemmas.Bool.{cases_Bool, cases_eq, cases_lt}
 use Rattle.std.proofs.lemmas.List.{length-append}
 use Rattle.std.proofs.lemmas.Option.{none-some, same_Some}
@@ -160,4 +160,4 @@ module _ {B : Type 0} (missing : HandlersAreMissing) (none : NoneStandBehind) (b
       }
 
 pub read_are_read : {B : Type 0} → HandlersAreMissing → NoneStandBehind → TypesAreMerged → ReadTypesAreSettled B → ReadTypesAreRead B
-read_are_read {B} missing none behind settled config bytes m found file is reads h grouped = read_types {B} missing none behind settled config bytes m found file is reads h grouped
+read_are_read missing none behind settled config bytes m found file is reads h grouped = read_types missing none behind settled config bytes m found file is reads h grouped

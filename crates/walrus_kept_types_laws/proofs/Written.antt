@@ -22,13 +22,12 @@ use Rattle.walrus_type_laws.specs.Rounds.{read}
 use Rattle.walrus_type_laws.proofs.Steady.{edited_homed}
 use Rattle.walrus_type_laws.proofs.Written.{AllWritten, home_written, types_of}
 use Rattle.walrus_meaning.specs.Meaning.{group_kinds, own_groups, type_ids}
-use Rattle.walrus_passes.specs.Part.{TypesRest}
 use Rattle.wasm_grammar.specs.States.{types_of as kinds_there}
 use Rattle.wasm_merged_modules.specs.Merged.{ids_of, kinds_of}
 use Rattle.wasm_references.specs.References.{Numbered, numbered}
 use Rattle.wasm_part.specs.Written.{GroupsStand, has_types, with_types}
 use Rattle.walrus_kept_types_laws.specs.Placed.{place_among, placed_indices, placed_table}
-use Rattle.walrus_kept_types_laws.specs.Written.{AreRead, KeptTypesAreWritten, PlacesHaveIndices, TypesHaveTheirIndices, WritesTypes}
+use Rattle.walrus_kept_types_laws.specs.Written.{AreLeft, AreRead, KeptTypesAreWritten, PlacesHaveIndices, TypesHaveTheirIndices, WritesTypes}
 use Rattle.walrus_kept_types_laws.proofs.Lists.{all_places, at_found, filter_mapped, in_has}
 use Rattle.walrus_kept_types_laws.proofs.Meant.{groups_kind, groups_many, groups_numbered, ids_members, own_are}
 use Rattle.walrus_kept_types_laws.proofs.Placed.{groups_same, kind_found, placed_emission, placed_types, written_same}
@@ -60,7 +59,7 @@ groups_with old new r only (g ∷ gs) =
     one_with g.explicit r (filter (is_written new) g.types) (filter (has_types_left old new only) (map (stays_in old new only) gs)) (map (λ (g : Group). marked g.explicit (map r (filter (is_written new) g.types))) gs)
     (groups_with old new r only gs)
 
-module _ (back : EditedAreReadBack) (stays : ℕ → Type 0) (old new : Table) (v : Numbered) (are : AreRead old) (grouped : AreGrouped new) (rest : TypesRest stays old new)
+module _ (back : EditedAreReadBack) (old new : Table) (v : Numbered) (are : AreRead old) (grouped : AreGrouped new) (rest : AreLeft old new)
   (groups : v.filled.groups ≡ own_groups old) (types : v.types ≡ range_with_len 0 (length (kinds_there v.filled))) where
   abbrev ids : List ℕ
   ids = type_ids old
@@ -150,7 +149,7 @@ module _ (back : EditedAreReadBack) (stays : ℕ → Type 0) (old new : Table) (
     once_read =
         let b = back new grouped merged out indices e in
         let count : next_id (read out).table ≡ length (kinds_of out) =
-        sym (length-range_with_len 0 (next_id (read out).table)) ∙ sym (ap (λ (l : List ℕ). length l) b.ids) ∙ ids_count out (unparsed (record { types = []; groups = [] })) in
+        sym (length-range_with_len 0 (next_id (read out).table)) ∙ sym (ap (λ (l : List ℕ). length l) b.ids) ∙ ids_count out (unparsed (record { types = []; groups = [] })) ∙ (let z : 0 + length (kinds_of out) ≡ length (kinds_of out) = omega arith in z) in
         b.ids ∙ ap (range_with_len 0) count
 
     types_written : WritesTypes v u out (placed_indices ids indices) (map r (written_types new e.groups))
@@ -163,7 +162,7 @@ module _ (back : EditedAreReadBack) (stays : ℕ → Type 0) (old new : Table) (
     }
 
 pub kept_types_written : EditedAreReadBack → KeptTypesAreWritten
-kept_types_written back stays old new v are grouped rest groups types out indices e = types_written back stays old new v are grouped rest groups types out indices e
+kept_types_written back old new v are grouped rest groups types out indices e = types_written back old new v are grouped rest groups types out indices e
 
 pub have_indices : TypesHaveTheirIndices
 have_indices old are indices =

@@ -5,7 +5,6 @@ use Rattle.walrus_forms.specs.Records.{TypeGroup}
 use Rattle.walrus_index_maps.specs.Maps.{Ids}
 use Rattle.walrus_meaning.specs.Meaning.{type_ids}
 use Rattle.walrus_module.specs.declared.module.Module.{Module as Whole}
-use Rattle.walrus_passes.specs.Part.{TypesRest}
 use Rattle.walrus_types.specs.Emission.{IsEmission}
 use Rattle.walrus_types.specs.Inverse.{AreInverse}
 use Rattle.walrus_types.specs.Table.{Table}
@@ -18,13 +17,13 @@ use Rattle.wasm_modules.specs.Modules.{Reads}
 use Rattle.wasm_part.specs.Handlers.{handler_groups}
 use Rattle.wasm_part.specs.Seen.{file_seen}
 use Rattle.walrus_kept_types_laws.specs.Placed.{place_among, placed_indices, placed_table}
-use Rattle.walrus_kept_types_laws.specs.Written.{WritesTypes}
+use Rattle.walrus_kept_types_laws.specs.Written.{AreLeft, WritesTypes}
 
 -- where the types that are left are written by these records, in this order: the file's module, its bodies in normal form, numbers a type by its place among those
 -- that were read, and by these numbers they are written
 abbrev pub ReadTypesAreWritten : Type 0 → Type 0
 ReadTypesAreWritten B = (config : ModuleConfig) (bytes : List ℕ) (m : Whole B) (found : Ids) (file : Module) → IsReadAs config bytes m found → Reads (read_features config) bytes file
-    → MeansFile config file m found → AreGrouped m.types → (stays : ℕ → Type 0) (t : Table) → AreGrouped t → TypesRest stays m.types t
+    → MeansFile config file m found → AreGrouped m.types → (t : Table) → AreGrouped t → AreLeft m.types t
     → (out : List TypeGroup) (indices : List (Option ℕ)) (order : List ℕ) → IsEmission t out indices → AreInverse order indices
     → (let ids = type_ids m.types in
     WritesTypes (file_seen place_of (read_features config) (handler_groups file) file) (placed_table ids t) out (placed_indices ids indices) (map (place_among ids) order))
