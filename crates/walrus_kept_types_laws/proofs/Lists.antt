@@ -29,9 +29,9 @@ pub all_places : (ids : List ℕ) → Once ids → map (place_among ids) ids ≡
 all_places ids once =
     same_list (map (place_among ids) ids) (range_with_len 0 (length ids))
     (λ i x at.
-        let m = map_at (place_among ids) ids i x at in
-        let e : 0 + i ≡ x = (let z : 0 + i ≡ i = omega arith in z) ∙ sym (place_at ids once i m.0 m.1) ∙ m.2 in
-        range_at 0 (length ids) i (slice_get_within ids i m.0 m.1) ∙ ap Some e)
+    let m = map_at (place_among ids) ids i x at in
+    let e : 0 + i ≡ x = (let z : 0 + i ≡ i = omega arith in z) ∙ sym (place_at ids once i m.0 m.1) ∙ m.2 in
+    range_at 0 (length ids) i (slice_get_within ids i m.0 m.1) ∙ ap Some e)
     (length-map ids (place_among ids) ∙ sym (length-range_with_len 0 (length ids)))
 
 -- ---- maps

@@ -104,7 +104,7 @@ module _ (t : Table) (ids : List ℕ) (once : Once ids) (has : (id : ℕ) → is
     -- ---- what is written
 
     module _ (low : (id : ℕ) (kind : Kind) → written_kind t id ≡ Some kind → (m : ℕ) → In m (kind_names kind) → slice_get ids m ≡ Some m)
-      (out : List TypeGroup) (indices : List (Option ℕ)) (e : IsEmission t out indices) where
+        (out : List TypeGroup) (indices : List (Option ℕ)) (e : IsEmission t out indices) where
       abbrev gs : List Group
       gs = e.groups
 
@@ -219,8 +219,8 @@ module _ (t : Table) (ids : List ℕ) (once : Once ids) (has : (id : ℕ) → is
         sound = sound_same 0 gs all ∙ e.sound;
         described = e.described ∙ sym (
             maps_twice rg (described_group u (index_at others)) gs
-                ∙ maps_agree (λ g. described_group u (index_at others) (rg g)) (described_group t (index_at indices)) gs (λ p g at. described_same g (in_each gs all p g at))
-        );
+            ∙ maps_agree (λ g. described_group u (index_at others) (rg g)) (described_group t (index_at indices)) gs (λ p g at. described_same g (in_each gs all p g at))
+            );
       }
 
       pub placed_types : written_types u placed_emission.groups ≡ map r (written_types t gs)

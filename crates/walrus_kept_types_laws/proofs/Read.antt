@@ -54,9 +54,9 @@ upto_at zero k lt = absurd (omega (arith, lt))
 upto_at (suc n) k lt = elim (cases_lt k n) as (λ _. slice_get (upto n ++ n ∷ []) k ≡ Some k) [
   | inl less ↦ left_at (upto n) (n ∷ []) k k (upto_at n k less)
   | inr more ↦ (
-    let e : k ≡ n = omega (arith, lt, more) in
+      let e : k ≡ n = omega (arith, lt, more) in
       ap (λ (i : ℕ). slice_get (upto n ++ n ∷ []) i) (e ∙ sym (upto_length n)) ∙ last_at (upto n) n ∙ ap Some (sym e)
-  )
+      )
 ]
 
 -- ---- the groups of the file

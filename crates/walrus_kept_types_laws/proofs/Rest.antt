@@ -171,8 +171,8 @@ module _ (old new : Table) (only : (id : ℕ) (ty : Item) → type_at new id ≡
       ]
 
   module _ (places : length new.groups ≡ length old.groups)
-    (left : (place : ℕ) (h : Group) → group_at new place ≡ Some h → (g : Group) × (group_at old place ≡ Some g) × (h ≡ left_in g))
-    (rest : (place : ℕ) (g : Group) → group_at old place ≡ Some g → (id : ℕ) → Contains g.types id → IsSome (type_at new id) → group_at new place ≡ Some (left_in g)) where
+      (left : (place : ℕ) (h : Group) → group_at new place ≡ Some h → (g : Group) × (group_at old place ≡ Some g) × (h ≡ left_in g))
+      (rest : (place : ℕ) (g : Group) → group_at old place ≡ Some g → (id : ℕ) → Contains g.types id → IsSome (type_at new id) → group_at new place ≡ Some (left_in g)) where
     pub groups_rest : ((place : ℕ) (g : Group) → group_at old place ≡ Some g → is_shown old g ≡ true → Inside g.types)
         → written_groups new ≡ filter has_types_left (map stays_in (written_groups old))
     groups_rest whole = rests 0 0 old.groups new.groups places (λ i. record { left = left i; rest = rest i; whole = whole i })

@@ -60,7 +60,7 @@ groups_with old new r only (g ∷ gs) =
     (groups_with old new r only gs)
 
 module _ (back : EditedAreReadBack) (old new : Table) (v : Numbered) (are : AreRead old) (grouped : AreGrouped new) (rest : AreLeft old new)
-  (groups : v.filled.groups ≡ own_groups old) (types : v.types ≡ range_with_len 0 (length (kinds_there v.filled))) where
+    (groups : v.filled.groups ≡ own_groups old) (types : v.types ≡ range_with_len 0 (length (kinds_there v.filled))) where
   abbrev ids : List ℕ
   ids = type_ids old
 
@@ -136,10 +136,10 @@ module _ (back : EditedAreReadBack) (old new : Table) (v : Numbered) (are : AreR
       ap (map (λ (g : Group). marked g.explicit g.types)) (groups_same new ids once has homed ∙ ap (map (renamed_group r)) (groups_rest old new rest.only rest.places rest.left rest.rest inside))
       ∙ groups_with old new r rest.only wg
       ∙ sym (ap with_types (
-          ap (map with_written) numbered_are
-          ∙ maps_twice (λ (g : Group). (group_kinds old g, map r g.types)) with_written wg
-          ∙ maps_agree (λ (g : Group). with_written (group_kinds old g, map r g.types)) (λ (g : Group). marked g.explicit (map r (filter (is_written new) g.types))) wg
-          (λ p g at. ap (λ (l : List ℕ). marked g.explicit l) (left_alike g (λ k id at_k. home_written old homed_old p k g id at at_k)))
+      ap (map with_written) numbered_are
+      ∙ maps_twice (λ (g : Group). (group_kinds old g, map r g.types)) with_written wg
+      ∙ maps_agree (λ (g : Group). with_written (group_kinds old g, map r g.types)) (λ (g : Group). marked g.explicit (map r (filter (is_written new) g.types))) wg
+      (λ p g at. ap (λ (l : List ℕ). marked g.explicit l) (left_alike g (λ k id at_k. home_written old homed_old p k g id at at_k)))
       ))
 
   -- ---- what is written
