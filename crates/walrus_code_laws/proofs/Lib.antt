@@ -4,3 +4,4 @@ mod Texts
 mod Bodies
 mod Spellings
 mod Parts
+mod Emissions
