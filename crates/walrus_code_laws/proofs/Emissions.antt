@@ -1,5 +1,5 @@
 -- Lemmas: emission's numbers serve for code.
-use Rattle.std.specs.Prelude.{ℕ, zero, suc, ◌+◌, ◌<◌, ◌≡◌, ◌⊎◌, ◌==◌, Bool, true, false, is_some, List, [], ◌∷◌, length, map, fold, Option, Some, None, slice_get, slice_index, slice_index_or, if◌then◌else◌, refl}
+use Rattle.std.specs.Prelude.{ℕ, zero, suc, ◌+◌, ◌<◌, ◌≡◌, ◌==◌, Bool, true, false, is_some, List, [], ◌∷◌, length, map, fold, Option, Some, None, slice_get, slice_index, slice_index_or, if◌then◌else◌, refl}
 use Rattle.std.specs.List.{AllByRecursion, AllZip, cons_option}
 use Rattle.std.proofs.Common.{ap, sym, ◌∙◌, subst, arith}
 use Rattle.std.proofs.lemmas.Bool.{eqb-true}
@@ -7,13 +7,11 @@ use Rattle.std.proofs.lemmas.List.Elements.{All-head, All-tail}
 use Rattle.std.proofs.lemmas.Option.{none-some, same_Some}
 use Rattle.wasm_operators.specs.Items as items
 use Rattle.wasm_part.proofs.Picked.{all_at}
-use Rattle.wasm_part.specs.Part.{Plan}
 use Rattle.walrus_arena.specs.Arena.{Arena, entries, entries_from, item_at}
 use Rattle.walrus_index_maps.specs.Maps.{Indices, Numbering, next_numbered, no_indices, numbered}
 use Rattle.walrus_items.specs.declared.local.Local.{Local}
-use Rattle.walrus_pairing.specs.Looks.{Look, number_of}
+use Rattle.walrus_pairing.specs.Looks.{number_of}
 use Rattle.walrus_module.specs.declared.module.Module.{Module}
-use Rattle.walrus_module.specs.Parts.{parts}
 use Rattle.walrus_module.specs.walrus_collections.LookUps.{items as items_in, local_entries}
 use Rattle.walrus_builder.specs.Functions.{seqs_of}
 use Rattle.walrus_tree.specs.Text.{operators}
@@ -22,14 +20,12 @@ use Rattle.walrus_local_function.specs.declared.local_function.LocalFunction.{Lo
 use Rattle.walrus_local_numbers.specs.Laws.{IsOnce}
 use Rattle.walrus_module_items.specs.Functions.{local_of}
 use Rattle.walrus_module_items.specs.declared.data.Data.{Data}
-use Rattle.walrus_module_items.specs.declared.element.Element.{Element}
 use Rattle.walrus_module_items.specs.declared.function.Function.{Function}
 use Rattle.walrus_module_items.specs.declared.function.FunctionKind.{FunctionKind}
 use Rattle.walrus_module_items.specs.declared.function.FunctionKind.TheVariants as functions
 use Rattle.walrus_module_items.specs.declared.global.Global.{Global}
 use Rattle.walrus_module_items.specs.declared.global.GlobalKind.{GlobalKind}
 use Rattle.walrus_module_items.specs.declared.global.GlobalKind.TheVariants as globals
-use Rattle.walrus_module_items.specs.declared.import.Import.{Import}
 use Rattle.walrus_module_items.specs.declared.import.ImportKind.{ImportKind}
 use Rattle.walrus_module_items.specs.declared.import.ImportKind.TheVariants as kinds
 use Rattle.walrus_module_items.specs.declared.memory.Memory.{Memory}
@@ -39,13 +35,12 @@ use Rattle.walrus_module_items.specs.declared.tag.TagKind.{TagKind}
 use Rattle.walrus_module_items.specs.declared.tag.TagKind.TheVariants as tags
 use Rattle.walrus_emit_numbers.specs.declared.facts.BodyFacts.{BodyFacts}
 use Rattle.walrus_emit_numbers.specs.Facts.{AreFacts}
-use Rattle.walrus_emit_numbers.specs.Numbers.{brought, data_from, element_in_turn, element_numbered, function_in_turn, functions_at, global_in_turn, import_in_turn, in_turn, memory_in_turn, numbers_of, own_global, own_memory, own_table, own_tag, table_in_turn, tag_in_turn, type_in_turn}
+use Rattle.walrus_emit_numbers.specs.Numbers.{brought, data_from, element_numbered, function_in_turn, functions_at, import_in_turn, memory_in_turn, numbers_of, own_global, own_memory, own_table, own_tag, table_in_turn, type_in_turn}
 use Rattle.walrus_emit_numbers.specs.Order.{AreWithin}
 use Rattle.walrus_emit_code.specs.Code.{facts_at}
 use Rattle.walrus_due_laws.specs.Spelled.{Follows}
-use Rattle.walrus_code_laws.specs.Bodies.{IsKnown}
-use Rattle.walrus_code_laws.specs.Code.{BodiesHavePlaces, KnowsBody}
-use Rattle.walrus_code_laws.specs.Emissions.{EmissionsServeCode, IsByNumbers}
+use Rattle.walrus_code_laws.specs.Code.{KnowsBody}
+use Rattle.walrus_code_laws.specs.Emissions.{EmissionsServeCode}
 use Rattle.walrus_code_laws.specs.Spelled.{IsOneToOne, items_of}
 
 -- ---- numbers in turn
