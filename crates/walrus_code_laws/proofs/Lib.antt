@@ -4,3 +4,4 @@ pub mod Texts
 pub mod Bodies
 pub mod Spellings
 mod Parts
+mod Emissions

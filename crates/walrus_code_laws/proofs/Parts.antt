@@ -1,5 +1,5 @@
 -- Lemmas: the code section of a plan's part.
-use Rattle.std.specs.Prelude.{ℕ, zero, suc, ◌≡◌, ◌||◌, Bool, true, false, List, [], ◌∷◌, ◌++◌, length, map, Option, Some, None, if◌then◌else◌, slice_get, slice_index_or, refl}
+use Rattle.std.specs.Prelude.{ℕ, zero, suc, ◌≡◌, ◌||◌, Bool, true, false, List, [], ◌∷◌, ◌++◌, length, map, Option, Some, None, slice_get, slice_index_or, refl}
 use Rattle.std.specs.List.{cons_option, filter_map, flat_map, list_any}
 use Rattle.std.specs.Option.{option_map}
 use Rattle.std.proofs.Common.{ap, sym, ◌∙◌}
@@ -8,7 +8,7 @@ use Rattle.wasm_features.specs.declared.WasmFeatures.{WasmFeatures}
 use Rattle.wasm_formats.specs.declared.fault.Space.{Space as FileSpace}
 use Rattle.wasm_formats.specs.declared.fault.Space.TheVariants as spaces
 use Rattle.wasm_operators.specs.Bytes.{operator_bytes}
-use Rattle.wasm_operators.specs.Items.{Functions, Types}
+use Rattle.wasm_operators.specs.Items.{Functions}
 use Rattle.wasm_operators.specs.NameLaws.{renamed_name, same}
 use Rattle.wasm_operators.specs.Names.{Name, Renaming, operator_names, renamed_operator}
 use Rattle.wasm_operators.specs.Operators.{Seen}
@@ -28,7 +28,7 @@ use Rattle.wasm_module_bytes.specs.Bytes.{origin_unplaced, slot_unplaced, unplac
 use Rattle.wasm_module_bytes.specs.Due.{export_from, group_from}
 use Rattle.wasm_canonical.specs.Due.{bodies_due, body_names_segment, code_if, count_if, counts_data, entity_due, function_due, import_due, is_passive, items_in, names_segment, origin_bytes, own_bytes, own_global, own_memory, own_table, own_tag, section_if, standard_due, start_if}
 use Rattle.wasm_part.specs.Order.{InOrder, brought_by, brought_to, is_to}
-use Rattle.wasm_part.specs.Part.{Plan, part, picked, renumbered_body, renumbered_function, renumbered_own, renumbered_placed}
+use Rattle.wasm_part.specs.Part.{Plan, part, picked, renumbered_function, renumbered_placed}
 use Rattle.wasm_ruled_renamed.specs.Bodies.{with_numbers}
 use Rattle.wasm_ruled_renamed.specs.Renamed.{renamed_placed}
 use Rattle.walrus_index_maps.specs.Maps.{Indices}

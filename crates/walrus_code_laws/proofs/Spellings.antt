@@ -35,7 +35,7 @@ use Rattle.walrus_meaning.specs.Bodies.{depth_of, local_ids, own_body}
 use Rattle.walrus_body_laws.specs.EmissionLaws.{LocalsAreMeant}
 use Rattle.walrus_emit_numbers.specs.declared.facts.BodyFacts.{BodyFacts}
 use Rattle.walrus_emit_parts.specs.Due.{Due, number, section, sized, written}
-use Rattle.walrus_emit_code.specs.Code.{bodies_due, body_due, body_numbers, code, contents, kind_due, kind_numbers, slot_due, slot_numbers, with_locals}
+use Rattle.walrus_emit_code.specs.Code.{bodies_due, body_due, body_numbers, contents, kind_due, kind_numbers, slot_due, slot_numbers, with_locals}
 use Rattle.walrus_due_laws.specs.Spelled.{SpelledAs, spelled}
 use Rattle.walrus_due_laws.proofs.Parts.{alone, both, plain, section_as, sized_as}
 use Rattle.walrus_code_laws.specs.Bodies.{BodiesAreSpelled, IsKnown}

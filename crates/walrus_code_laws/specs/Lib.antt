@@ -3,3 +3,4 @@ pub mod Spelled
 pub mod Bodies
 pub mod Code
 pub mod Parts
+pub mod Emissions

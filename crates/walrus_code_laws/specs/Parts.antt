@@ -1,5 +1,5 @@
 -- What is due for bodies by a plan's numbers is the code section of the plan's part, in which the locals of each body are numbered.
-use Rattle.std.specs.Prelude.{ℕ, ◌≡◌, Bool, List, ◌++◌, map}
+use Rattle.std.specs.Prelude.{◌≡◌, Bool, List, ◌++◌, map}
 use Rattle.std.specs.List.{AllByRecursion}
 use Rattle.wasm_features.specs.declared.WasmFeatures.{WasmFeatures}
 use Rattle.wasm_operators.specs.Items.{Functions}

@@ -2,6 +2,7 @@
 
 ghost use Rattle.walrus_code_laws.specs.Bodies.{BodiesAreSpelled};
 ghost use Rattle.walrus_code_laws.specs.Code.{CodeIsSpelled};
+ghost use Rattle.walrus_code_laws.specs.Emissions.{EmissionsServeCode};
 ghost use Rattle.walrus_code_laws.specs.Parts.{CodeIsApart, PartCodeIsSpelled, PartsAreWritten};
 
 /// A body that can be written is the shortest spelling of the body that its function means, renamed by the numbers that items and locals have.
@@ -43,3 +44,8 @@ pub fn parts_are_written()
     walrus_due_laws::laws::parts_are_spelled();
     walrus_due_laws::laws::standard_is_around();
 }
+
+/// By the numbers that emission gives, code is written by a plan of these numbers.
+pub fn emissions_serve_code<B>()
+    ensures { EmissionsServeCode B }
+{}
