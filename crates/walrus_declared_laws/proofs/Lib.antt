@@ -1,1 +1,3 @@
 mod Added
+mod Retyped
+mod Agreed
