@@ -3,7 +3,7 @@
 ghost use Rattle.walrus_code_laws.specs.Bodies.{BodiesAreSpelled};
 ghost use Rattle.walrus_code_laws.specs.Code.{CodeIsSpelled};
 ghost use Rattle.walrus_code_laws.specs.Emissions.{EmissionsServeCode};
-ghost use Rattle.walrus_code_laws.specs.Parts.{CodeIsApart, PartCodeIsSpelled, PartsAreWritten};
+ghost use Rattle.walrus_code_laws.specs.Parts.{CodeIsApart, PartCodeIsSpelled, PartsAreCanonical, PartsAreWritten};
 
 /// A body that can be written is the shortest spelling of the body that its function means, renamed by the numbers that items and locals have.
 pub fn bodies_are_spelled()
@@ -41,6 +41,16 @@ pub fn parts_are_written()
     ensures { PartsAreWritten }
 {
     code_is_spelled();
+    walrus_due_laws::laws::parts_are_spelled();
+    walrus_due_laws::laws::standard_is_around();
+}
+
+/// Between the part's custom sections they are its canonical bytes.
+pub fn parts_are_canonical()
+    ensures { PartsAreCanonical }
+{
+    code_is_spelled();
+    walrus_due_laws::laws::files_are_spelled();
     walrus_due_laws::laws::parts_are_spelled();
     walrus_due_laws::laws::standard_is_around();
 }
