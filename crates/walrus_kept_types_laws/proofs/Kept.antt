@@ -1,11 +1,11 @@
 -- Lemmas: what is written of the types of a module that was read.
-use Rattle.std.proofs.Common.{◌≡◌, ◌∙◌, inl, inr, ℕ, zero, suc, Bool, true, false, filter, unwrap_or, List, [], ◌∷◌, ◌++◌, map, Option, Some, None, refl, sym, ap, subst}
+use Rattle.std.proofs.Common.{◌≡◌, ◌∙◌, inl, inr, ℕ, zero, suc, Bool, true, filter, unwrap_or, List, [], ◌∷◌, map, Option, Some, None, refl, sym, ap, subst}
 use Rattle.std.specs.Prelude.{slice_index_or}
 use Rattle.std.specs.List.{slice_get}
 use Rattle.std.proofs.lemmas.Bool.{cases_Bool, false≢true}
 use Rattle.std.proofs.lemmas.Option.{none-some, same_Some}
 use Rattle.walrus_forms.specs.Renaming.{at, index_at}
-use Rattle.walrus_meaning.specs.Meaning.{own_groups, type_ids}
+use Rattle.walrus_meaning.specs.Meaning.{type_ids}
 use Rattle.walrus_types.specs.Emission.{IsEmission, is_written, written_in, written_types}
 use Rattle.walrus_types.specs.Inverse.{AreInverse}
 use Rattle.walrus_types.specs.Table.{Table}
@@ -73,7 +73,7 @@ file_types_stay are_read config bytes m found file is reads h grouped t left out
     elim (r.sent n) as (λ _. index_at (placed_indices ids indices) k ≡ index_at indices k) [
       | inl less ↦ (have_indices m.types r.are indices).first k less
       | inr none ↦ (
-        let none_at : (id i : ℕ) → slice_index_or indices id None ≡ Some i → ⊥ =
+          let none_at : (id i : ℕ) → slice_index_or indices id None ≡ Some i → ⊥ =
           λ id i is_some.
           let at_i = e.arranged.indexed.place id i is_some in
           let s = seat (written_in t) e.groups i id at_i in
@@ -81,5 +81,5 @@ file_types_stay are_read config bytes m found file is reads h grouped t left out
           false≢true (sym (none id) ∙ only_written m.types t left.only id w) in
           no_index (slice_index_or (placed_indices ids indices) k None) (λ i there. (let f = found_at (λ j. slice_index_or indices j None) (λ (o : Option ℕ). o) refl ids k i there in none_at f.0 i f.2))
           ∙ sym (no_index (slice_index_or indices k None) (none_at k))
-      )
+          )
     ]

@@ -1,5 +1,5 @@
 -- Lemmas: lists, and the places of what stands in them.
-use Rattle.std.proofs.Common.{◌≡◌, ◌≢◌, ◌∙◌, ◌⊎◌, inl, inr, ℕ, zero, suc, ◌+◌, ◌<◌, Bool, true, false, ◌||◌, List, [], ◌∷◌, ◌++◌, length, map, filter, Option, Some, None, if◌then◌else◌, refl, sym, ap, arith}
+use Rattle.std.proofs.Common.{◌≡◌, ◌∙◌, ◌⊎◌, inl, inr, ℕ, zero, suc, ◌+◌, Bool, true, false, ◌||◌, List, [], ◌∷◌, ◌++◌, length, map, filter, Option, Some, None, if◌then◌else◌, refl, sym, ap, arith}
 use Rattle.std.specs.Prelude.{slice_index_or}
 use Rattle.std.specs.List.{slice_get, list_any, filter_map, cons_option, flat_map, range_with_len}
 use Rattle.std.proofs.lemmas.Bool.{false≢true, cases_Bool, eq-eqb, ne_eqb}
@@ -29,9 +29,9 @@ pub all_places : (ids : List ℕ) → Once ids → map (place_among ids) ids ≡
 all_places ids once =
     same_list (map (place_among ids) ids) (range_with_len 0 (length ids))
     (λ i x at.
-        let m = map_at (place_among ids) ids i x at in
-        let e : 0 + i ≡ x = (let z : 0 + i ≡ i = omega arith in z) ∙ sym (place_at ids once i m.0 m.1) ∙ m.2 in
-        range_at 0 (length ids) i (slice_get_within ids i m.0 m.1) ∙ ap Some e)
+    let m = map_at (place_among ids) ids i x at in
+    let e : 0 + i ≡ x = (let z : 0 + i ≡ i = omega arith in z) ∙ sym (place_at ids once i m.0 m.1) ∙ m.2 in
+    range_at 0 (length ids) i (slice_get_within ids i m.0 m.1) ∙ ap Some e)
     (length-map ids (place_among ids) ∙ sym (length-range_with_len 0 (length ids)))
 
 -- ---- maps

@@ -2,33 +2,26 @@
 use Rattle.std.specs.Prelude.{ℕ, zero, suc, ◌≡◌, ◌≤◌, ◌<◌, ◌+◌, ◌&&◌, ◌⊎◌, Bool, true, false, not, List, [], ◌∷◌, ◌++◌, Contains, filter, length, map, Option, Some, None, is_some, slice_get, refl, if◌then◌else◌}
 use Rattle.std.specs.List.{AllByRecursion, flat_map}
 use Rattle.std.proofs.Common.{inl, inr, ap, sym, subst, ◌∙◌, arith, append-nil}
-use Rattle.std.proofs.lemmas.Bool.{cases_Bool, cases_eq, cases_lt}
+use Rattle.std.proofs.lemmas.Bool.{cases_Bool, cases_lt}
 use Rattle.std.proofs.lemmas.List.{length-append}
 use Rattle.std.proofs.lemmas.Option.{none-some, same_Some, slice_get_within}
 use Rattle.walrus_forms.specs.Kinds.{Kind, kind_names}
 use Rattle.walrus_forms.specs.Records.{TypeGroup}
-use Rattle.walrus_forms.specs.Renaming.{KindBelow, at, renamed_kind}
+use Rattle.walrus_forms.specs.Renaming.{at, renamed_kind}
 use Rattle.walrus_forms.specs.Same.{same_kind}
 use Rattle.walrus_forms.proofs.RenamingLemmas.{In, kinds-below}
 use Rattle.walrus_types.specs.Emission.{is_written, written_groups, written_kind}
 use Rattle.walrus_types.specs.Mergers.{ParsingCarriesSame}
-use Rattle.walrus_types.specs.Items.{Group}
-use Rattle.walrus_types.specs.Table.{Table, group_at}
-use Rattle.walrus_types.specs.TypeLaws.{AreGrouped}
-use Rattle.walrus_types.proofs.OnceLemmas.{is_shown, place_written}
-use Rattle.walrus_types.proofs.Places.{Has, contains_has, has_contains, left_at}
+use Rattle.walrus_types.specs.Table.{Table}
+use Rattle.walrus_types.proofs.Places.{contains_has, has_contains, left_at}
 use Rattle.walrus_type_laws.specs.Alike.{AreHomed, members}
 use Rattle.walrus_type_laws.proofs.Steady.{edited_homed}
-use Rattle.walrus_type_laws.proofs.Written.{home_written, types_of}
-use Rattle.walrus_config.specs.declared.config.ModuleConfig.{ModuleConfig}
-use Rattle.walrus_index_maps.specs.Maps.{Ids}
-use Rattle.walrus_meaning.specs.Meaning.{group_kinds, has_kinds, own_groups, type_ids}
-use Rattle.walrus_module.specs.declared.module.Module.{Module as Whole}
+use Rattle.walrus_meaning.specs.Meaning.{has_kinds, own_groups, type_ids}
 use Rattle.walrus_named_bodies.specs.Parsed.{read_features}
 use Rattle.walrus_sections_into.specs.Numbers.{upto}
 use Rattle.walrus_parse_laws.specs.FilledGroups as filled
 use Rattle.walrus_parse_laws.specs.Meant.{place_of as place_meant}
-use Rattle.walrus_parse_laws.specs.Means.{MeansFile, handler_kinds}
+use Rattle.walrus_parse_laws.specs.Means.{handler_kinds}
 use Rattle.wasm_features.specs.declared.WasmFeatures.{WasmFeatures}
 use Rattle.wasm_grammar.specs.Modules.{Body, Function, Module}
 use Rattle.wasm_grammar.specs.States.{form_test}
@@ -39,7 +32,7 @@ use Rattle.wasm_module_rules.specs.Linked.{Each}
 use Rattle.wasm_normal_modules.proofs.Slots.{get_some}
 use Rattle.wasm_part.specs.Handlers.{HandlersAreMissing, bodies_handle, bodies_of, function_bodies, handler_groups, is_missing, kind_of, lacking, sent}
 use Rattle.wasm_ruled_modules.specs.Rules.{AreBelow, GroupsBelow}
-use Rattle.walrus_kept_types_laws.specs.Read.{AreReadOf, ReadTypesAreRead, ReadTypesAreSettled}
+use Rattle.walrus_kept_types_laws.specs.Read.{ReadTypesAreRead, ReadTypesAreSettled}
 use Rattle.walrus_kept_types_laws.proofs.Handlers.{handlers_lacking, kinds_lacking}
 use Rattle.walrus_kept_types_laws.proofs.Lists.{failed, flat_append, has_in, passed}
 use Rattle.walrus_kept_types_laws.proofs.Meant.{groups_kind, groups_many, own_are}
@@ -59,9 +52,9 @@ upto_at zero k lt = absurd (omega (arith, lt))
 upto_at (suc n) k lt = elim (cases_lt k n) as (λ _. slice_get (upto n ++ n ∷ []) k ≡ Some k) [
   | inl less ↦ left_at (upto n) (n ∷ []) k k (upto_at n k less)
   | inr more ↦ (
-    let e : k ≡ n = omega (arith, lt, more) in
+      let e : k ≡ n = omega (arith, lt, more) in
       ap (λ (i : ℕ). slice_get (upto n ++ n ∷ []) i) (e ∙ sym (upto_length n)) ∙ last_at (upto n) n ∙ ap Some (sym e)
-  )
+      )
 ]
 
 -- ---- the groups of the file
@@ -155,9 +148,9 @@ module _ (carries : ParsingCarriesSame) (file : Module) (below : GroupsBelow 0 f
   sent_or_none n = elim (cases_lt n (length (kinds_of file.groups))) as (λ _. (at (ids_of file.groups) n < count) ⊎ (count ≡ 0)) [
     | inl less ↦ inl (sent_there n less)
     | inr more ↦ (
-      let zero_is = past (ids_of file.groups) n (let all = many carries file.groups below in omega (arith, more, all)) in
+        let zero_is = past (ids_of file.groups) n (let all = many carries file.groups below in omega (arith, more, all)) in
         elim (cases_lt 0 count) as (λ _. (at (ids_of file.groups) n < count) ⊎ (count ≡ 0)) [ inl some ↦ inl (omega (arith, zero_is, some)) | inr none ↦ inr (omega (arith, none)) ]
-    )
+        )
   ]
 
   none_of_file : count ≡ 0 → kinds_of file.groups ≡ []
@@ -166,7 +159,7 @@ module _ (carries : ParsingCarriesSame) (file : Module) (below : GroupsBelow 0 f
         | inl some ↦ absurd (let lt = sent_there 0 some in omega (arith, lt, none))
         | inr no_types ↦ omega (arith, no_types)
       ]
-  )
+      )
 
 -- ---- a module that was read
 
@@ -219,10 +212,10 @@ module _ {B : Type 0} (carries : ParsingCarriesSame) (missing : HandlersAreMissi
           | inl less ↦ inl less
           | inr zero_is ↦ inr (λ id. elim (cases_Bool (is_written t id)) as (λ _. is_written t id ≡ false) [
             | inl w ↦ (
-              let place = contains_has (members t) id ((homed.homed id).1 w) in
+                let place = contains_has (members t) id ((homed.homed id).1 w) in
                 let lt = slice_get_within (members t) place.0 id place.1 in
                 absurd (omega (arith, lt, none_at zero_is))
-            )
+                )
             | inr not_so ↦ not_so
           ])
         ];

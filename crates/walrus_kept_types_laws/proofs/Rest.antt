@@ -10,7 +10,7 @@ use Rattle.walrus_forms.specs.Kinds.{Kind}
 use Rattle.walrus_types.specs.Emission.{shown_kind, written_kind, is_written, written_groups}
 use Rattle.walrus_types.specs.Items.{Item, Group}
 use Rattle.walrus_types.specs.Merged.{IsMerged, UnmarkedAreSingle, single_group}
-use Rattle.walrus_types.specs.Table.{Table, type_at, group_at, merges, names_itself}
+use Rattle.walrus_types.specs.Table.{Table, type_at, group_at}
 use Rattle.walrus_types.proofs.OnceLemmas.{is_shown}
 use Rattle.walrus_types.proofs.Places.{contains_has, has_contains}
 use Rattle.walrus_type_laws.proofs.Written.{kind_of, written_item}
@@ -171,8 +171,8 @@ module _ (old new : Table) (only : (id : ℕ) (ty : Item) → type_at new id ≡
       ]
 
   module _ (places : length new.groups ≡ length old.groups)
-    (left : (place : ℕ) (h : Group) → group_at new place ≡ Some h → (g : Group) × (group_at old place ≡ Some g) × (h ≡ left_in g))
-    (rest : (place : ℕ) (g : Group) → group_at old place ≡ Some g → (id : ℕ) → Contains g.types id → IsSome (type_at new id) → group_at new place ≡ Some (left_in g)) where
+      (left : (place : ℕ) (h : Group) → group_at new place ≡ Some h → (g : Group) × (group_at old place ≡ Some g) × (h ≡ left_in g))
+      (rest : (place : ℕ) (g : Group) → group_at old place ≡ Some g → (id : ℕ) → Contains g.types id → IsSome (type_at new id) → group_at new place ≡ Some (left_in g)) where
     pub groups_rest : ((place : ℕ) (g : Group) → group_at old place ≡ Some g → is_shown old g ≡ true → Inside g.types)
         → written_groups new ≡ filter has_types_left (map stays_in (written_groups old))
     groups_rest whole = rests 0 0 old.groups new.groups places (λ i. record { left = left i; rest = rest i; whole = whole i })

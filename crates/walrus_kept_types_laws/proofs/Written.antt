@@ -1,5 +1,5 @@
 -- Lemmas: what is written of types of which some are deleted, in words of the module that has them all.
-use Rattle.std.proofs.Common.{◌≡◌, ◌∙◌, ℕ, zero, suc, ◌+◌, ◌<◌, Bool, true, List, [], ◌∷◌, ◌++◌, length, map, filter, Option, Some, None, if◌then◌else◌, refl, sym, ap, subst, arith, length-append, unwrap_or}
+use Rattle.std.proofs.Common.{◌≡◌, ◌∙◌, ℕ, ◌+◌, Bool, true, List, [], ◌∷◌, length, map, filter, Option, Some, None, if◌then◌else◌, refl, sym, ap, subst, arith, length-append, unwrap_or}
 use Rattle.std.specs.Prelude.{slice_index_or}
 use Rattle.std.specs.List.{slice_get, flat_map, range_with_len}
 use Rattle.std.proofs.lemmas.List.FromFn.{length-range_with_len}
@@ -20,14 +20,14 @@ use Rattle.walrus_type_laws.specs.Alike.{AreHomed, members, renamed_group}
 use Rattle.walrus_type_laws.specs.Edited.{EditedAreReadBack}
 use Rattle.walrus_type_laws.specs.Rounds.{read}
 use Rattle.walrus_type_laws.proofs.Steady.{edited_homed}
-use Rattle.walrus_type_laws.proofs.Written.{AllWritten, home_written, types_of}
+use Rattle.walrus_type_laws.proofs.Written.{home_written, types_of}
 use Rattle.walrus_meaning.specs.Meaning.{group_kinds, own_groups, type_ids}
 use Rattle.wasm_grammar.specs.States.{types_of as kinds_there}
 use Rattle.wasm_merged_modules.specs.Merged.{ids_of, kinds_of}
 use Rattle.wasm_references.specs.References.{Numbered, numbered}
 use Rattle.wasm_part.specs.Written.{GroupsStand, has_types, with_types}
 use Rattle.walrus_kept_types_laws.specs.Placed.{place_among, placed_indices, placed_table}
-use Rattle.walrus_kept_types_laws.specs.Written.{AreLeft, AreRead, KeptTypesAreWritten, PlacesHaveIndices, TypesHaveTheirIndices, WritesTypes}
+use Rattle.walrus_kept_types_laws.specs.Written.{AreLeft, AreRead, KeptTypesAreWritten, TypesHaveTheirIndices, WritesTypes}
 use Rattle.walrus_kept_types_laws.proofs.Lists.{all_places, at_found, filter_mapped, in_has}
 use Rattle.walrus_kept_types_laws.proofs.Meant.{groups_kind, groups_many, groups_numbered, ids_members, own_are}
 use Rattle.walrus_kept_types_laws.proofs.Placed.{groups_same, kind_found, placed_emission, placed_types, written_same}
@@ -60,7 +60,7 @@ groups_with old new r only (g ∷ gs) =
     (groups_with old new r only gs)
 
 module _ (back : EditedAreReadBack) (old new : Table) (v : Numbered) (are : AreRead old) (grouped : AreGrouped new) (rest : AreLeft old new)
-  (groups : v.filled.groups ≡ own_groups old) (types : v.types ≡ range_with_len 0 (length (kinds_there v.filled))) where
+    (groups : v.filled.groups ≡ own_groups old) (types : v.types ≡ range_with_len 0 (length (kinds_there v.filled))) where
   abbrev ids : List ℕ
   ids = type_ids old
 
@@ -136,10 +136,10 @@ module _ (back : EditedAreReadBack) (old new : Table) (v : Numbered) (are : AreR
       ap (map (λ (g : Group). marked g.explicit g.types)) (groups_same new ids once has homed ∙ ap (map (renamed_group r)) (groups_rest old new rest.only rest.places rest.left rest.rest inside))
       ∙ groups_with old new r rest.only wg
       ∙ sym (ap with_types (
-          ap (map with_written) numbered_are
-          ∙ maps_twice (λ (g : Group). (group_kinds old g, map r g.types)) with_written wg
-          ∙ maps_agree (λ (g : Group). with_written (group_kinds old g, map r g.types)) (λ (g : Group). marked g.explicit (map r (filter (is_written new) g.types))) wg
-          (λ p g at. ap (λ (l : List ℕ). marked g.explicit l) (left_alike g (λ k id at_k. home_written old homed_old p k g id at at_k)))
+      ap (map with_written) numbered_are
+      ∙ maps_twice (λ (g : Group). (group_kinds old g, map r g.types)) with_written wg
+      ∙ maps_agree (λ (g : Group). with_written (group_kinds old g, map r g.types)) (λ (g : Group). marked g.explicit (map r (filter (is_written new) g.types))) wg
+      (λ p g at. ap (λ (l : List ℕ). marked g.explicit l) (left_alike g (λ k id at_k. home_written old homed_old p k g id at at_k)))
       ))
 
   -- ---- what is written

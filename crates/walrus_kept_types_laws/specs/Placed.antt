@@ -17,4 +17,3 @@ placed_table ids t = record { types = map (type_at t) ids; groups = map (λ (g :
 -- the index of each of them
 abbrev pub placed_indices : List ℕ → List (Option ℕ) → List (Option ℕ)
 placed_indices ids indices = map (λ id. slice_index_or indices id None) ids
-
