@@ -6,19 +6,15 @@ use Rattle.std.proofs.Common.{inl, inr, ap, sym, subst, ◌∙◌, arith}
 use Rattle.std.proofs.lemmas.List.{length-map, map-append}
 use Rattle.walrus_arena.specs.Arena.{Arena, entries_from}
 use Rattle.walrus_emit.specs.Left.{AddsDeclared, Declares}
-use Rattle.walrus_emit_numbers.specs.declared.facts.BodyFacts.{BodyFacts}
 use Rattle.walrus_items.specs.declared.local.Local.{Local}
 use Rattle.walrus_meaning.specs.Meaning.{means, own_element, own_function, slots_of}
 use Rattle.walrus_meaning.specs.Bodies.{local_ids, own_operators}
-use Rattle.walrus_module.specs.Parts.{Module as Parts, parts}
-use Rattle.walrus_module.specs.declared.module.Module.{Module}
+use Rattle.walrus_module.specs.Parts.{Module as Parts}
 use Rattle.walrus_module_items.specs.declared.element.Element.{Element}
 use Rattle.walrus_module_items.specs.declared.function.Function.{Function}
 use Rattle.walrus_module_items.specs.declared.function.FunctionKind.{FunctionKind}
 use Rattle.walrus_module_items.specs.declared.function.FunctionKind.TheVariants as kinds
 use Rattle.walrus_parse_gc_laws.specs.Numbered.{numbered, numbered_function}
-use Rattle.walrus_plan_laws.specs.Plans.{living, plan_of}
-use Rattle.walrus_types.specs.declared.emit.EmittedTypes.{EmittedTypes}
 use Rattle.wasm_grammar.specs.Modules as grammar
 use Rattle.wasm_import_links.specs.Links.{function_brought, slot_import}
 use Rattle.wasm_normal_form.specs.Normal.{size}
@@ -26,12 +22,12 @@ use Rattle.wasm_normal_form.specs.Roles.{role, weight_of}
 use Rattle.wasm_operators.specs.Items.{Space, Types, Functions, Tables, Memories, Tags, Globals, ElementSegments, DataSegments, Locals, Labels}
 use Rattle.wasm_operators.specs.Names.{Renaming}
 use Rattle.wasm_part.specs.Closed.{IsListed}
-use Rattle.wasm_part.specs.Order.{InOrder, OwnBefore, import_of, size_of, slot_size}
+use Rattle.wasm_part.specs.Order.{InOrder, OwnBefore, brought_by, import_of, size_of, slot_size}
 use Rattle.wasm_part.specs.Part.{Plan, part}
 use Rattle.wasm_ruled_normal.specs.Normal.{text_of}
 use Rattle.wasm_ruled_renamed.specs.Renamed.{renamed_placed}
 use Rattle.walrus_declared_laws.specs.Added.{ListsLast, declared_element, declaring_plan, with_segment}
-use Rattle.walrus_declared_laws.specs.Emitted.{EmissionsDeclare, IsDeclaredBy, plan_with}
+use Rattle.walrus_declared_laws.specs.Emitted.{EmissionsDeclare, IsDeclaredBy, living, plan_with}
 use Rattle.walrus_declared_laws.proofs.Added.{last_added, none_brought}
 
 -- ---- the numbers of locals don't show in the order
@@ -129,13 +125,7 @@ living_below k total [] e = tt
 living_below k total (None ∷ slots) e = living_below (k + 1) total slots (omega (arith, e))
 living_below k total (Some x ∷ slots) e = (omega (arith, e), living_below (k + 1) total slots (omega (arith, e)))
 
-module _ {B : Type 0} (old : Parts) (input : Module B) (facts : List BodyFacts) (order : List ℕ) (emitted : EmittedTypes) where
-  abbrev new : Parts
-  new = parts input
-
-  abbrev q : Plan
-  q = plan_of input facts order emitted
-
+module _ (old new : Parts) (q : Plan) (no_more : q.declared ≡ []) (imports : List ℕ) (segments : q.listed ElementSegments ≡ brought_by (means new) ElementSegments imports ++ living (means new).elements) where
   unchanged : new ≡ old → IsDeclaredBy old new q q
   unchanged e = record {
     same = ap (λ (x : Parts). part q (numbered x)) e;
@@ -154,12 +144,12 @@ module _ {B : Type 0} (old : Parts) (input : Module B) (facts : List BodyFacts) 
 
     lists : ListsLast q (numbered old) (living (means old).elements)
     lists = record {
-      listed = ap (λ (l : List ℕ). l ++ living (means new).elements) (none_brought (means new) (living (means new).imports))
+      listed = segments ∙ ap (λ (l : List ℕ). l ++ living (means new).elements) (none_brought (means new) imports)
           ∙ ap (λ (l : List (Option grammar.Element)). living l) elements_are
           ∙ living_from 0 (means old).elements (declared_element (n ∷ ns))
           ∙ ap (λ (k : ℕ). living (means old).elements ++ k ∷ []) (let z : 0 + length (means old).elements ≡ length (means old).elements = omega arith in z);
       below = living_below 0 (length (means old).elements) (means old).elements (omega arith);
-      none = refl;
+      none = no_more;
     }
 
     changed : IsDeclaredBy old new q (declaring_plan (living (means old).elements) (n ∷ ns) q)
@@ -170,6 +160,6 @@ module _ {B : Type 0} (old : Parts) (input : Module B) (facts : List BodyFacts) 
           ordered = λ o. added.ordered (subst (λ (x : grammar.Module). InOrder x q) numbered_are (numbered_order new q o));
         }
 
-pub emissions_declare : {B : Type 0} → EmissionsDeclare B
-emissions_declare old input [] facts order emitted d = unchanged old input facts order emitted d
-emissions_declare old input (n ∷ ns) facts order emitted d = changed old input facts order emitted n ns d.0 d.1
+pub emissions_declare : EmissionsDeclare
+emissions_declare old new [] d q no_more imports segments = unchanged old new q no_more imports segments d
+emissions_declare old new (n ∷ ns) d q no_more imports segments = changed old new q no_more imports segments n ns d.0 d.1

@@ -25,6 +25,6 @@ pub fn retyped_parts_are_same()
 }
 
 /// What is written of a module with the segment that was added for it is the part of the module without it, by a plan that adds the segment, in the same order.
-pub fn emissions_declare<B>()
-    ensures { EmissionsDeclare B }
+pub fn emissions_declare()
+    ensures { EmissionsDeclare }
 {}
