@@ -1,3 +1,4 @@
 mod Added
 mod Retyped
 mod Agreed
+mod Emitted

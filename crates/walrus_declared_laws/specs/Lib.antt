@@ -1,3 +1,4 @@
 pub mod Added
 pub mod Retyped
 pub mod Agreed
+pub mod Emitted

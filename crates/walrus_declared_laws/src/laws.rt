@@ -2,6 +2,7 @@
 
 ghost use Rattle.walrus_declared_laws.specs.Added.{LastSegmentsAreAdded};
 ghost use Rattle.walrus_declared_laws.specs.Agreed.{AgreeingModulesAreOrdered};
+ghost use Rattle.walrus_declared_laws.specs.Emitted.{EmissionsDeclare};
 ghost use Rattle.walrus_declared_laws.specs.Retyped.{RetypedPartsAreSame};
 
 use wasm_operators::laws::renamings_compose;
@@ -22,3 +23,8 @@ pub fn retyped_parts_are_same()
 {
     renamings_compose();
 }
+
+/// What is written of a module with the segment that was added for it is the part of the module without it, by a plan that adds the segment, in the same order.
+pub fn emissions_declare()
+    ensures { EmissionsDeclare }
+{}
