@@ -48,7 +48,7 @@ module _ {A B : Type 0} (see : A → B) where
   pub slots_left : (stays : ℕ → A → Type 0) (seen_stays : ℕ → B → Type 0) → ((n : ℕ) (x : A) → stays n x → seen_stays n (see x)) → ((n : ℕ) (x : A) → seen_stays n (see x) → stays n x)
       → (old new : Arena A) → Rest stays old new → SlotsLeft seen_stays (slots_of see old) (slots_of see new)
   slots_left stays seen_stays forth back old new h = record {
-    sized = length-map new.slots ∙ h.sized ∙ sym (length-map old.slots);
+    sized = length-map new.slots (option_map see) ∙ h.sized ∙ sym (length-map old.slots (option_map see));
     each = λ n y at s. (let x = slot_of old n y at in slot_is new n x.one y (h.each n x.one x.is (back n x.one (subst (seen_stays n) (sym x.seen) s))) x.seen);
     only = λ n y at. (let x = slot_of new n y at in slot_is old n x.one y (h.only n x.one x.is) x.seen);
     stay = λ n y at. (let x = slot_of new n y at in subst (seen_stays n) x.seen (forth n x.one (h.stay n x.one tt x.is)));

@@ -5,7 +5,7 @@ use Rattle.std.proofs.Common.{ap, sym, subst, ◌∙◌, inl, inr}
 use Rattle.std.proofs.lemmas.List.{append_assoc}
 use Rattle.wasm_features.specs.declared.WasmFeatures.{WasmFeatures}
 use Rattle.wasm_operators.specs.declared.block_type.BlockType.{BlockType}
-use Rattle.wasm_operators.specs.Items.{Item, Block}
+use Rattle.wasm_operators.specs.Items.{Item, Block, ManyClauses}
 use Rattle.wasm_operators.specs.Operators.{Seen, flow_of}
 use Rattle.wasm_operators.specs.Ranges.{OperatorFits}
 use Rattle.wasm_body_grammar.specs.Rules.{Around}
@@ -30,7 +30,7 @@ use Rattle.walrus_body_rules.specs.Sights.{Sight}
 use Rattle.walrus_body_steps.specs.Meanings.{OpensOf, RunsAs, TurnsTo, meaning}
 use Rattle.walrus_body_trees.proofs.Instrs.{made_children, seqs_in}
 use Rattle.walrus_body_laws.proofs.Fitting.{RunsFit}
-use Rattle.walrus_meaning.specs.Bodies.{block_of, depth_of, own_instr, own_seen}
+use Rattle.walrus_meaning.specs.Bodies.{block_of, depth_of, own_clause, own_instr, own_seen}
 use Rattle.walrus_meaning.specs.Words.{own_block}
 use Rattle.walrus_pass_laws.specs.Instrs.{part_types}
 use Rattle.walrus_pass_laws.proofs.Sets.{In, in_cases, in_left, in_right}
@@ -112,7 +112,10 @@ module _ (b : List InstrSeq) where
   opener_items around openers.Loop i q y h found = ([], ap (λ (j : Instr). (own_instr b (depth_of around) j).items) h.0 ∙ ap (λ (o : Option InstrSeq). Block (block_of o) ∷ []) found)
   opener_items around openers.If i q y h found = ([], ap (λ (j : Instr). (own_instr b (depth_of around) j).items) h.1 ∙ ap (λ (o : Option InstrSeq). Block (block_of o) ∷ []) found)
   opener_items around openers.Try i q y h found = ([], ap (λ (j : Instr). (own_instr b (depth_of around) j).items) h.1 ∙ ap (λ (o : Option InstrSeq). Block (block_of o) ∷ []) found)
-  opener_items around (openers.TryTable cs) i q y h found = (_, ap (λ (j : Instr). (own_instr b (depth_of around) j).items) h.0 ∙ ap (λ (o : Option InstrSeq). Block (block_of o) ∷ _) found)
+  opener_items around (openers.TryTable cs) i q y h found = (
+    ManyClauses (map (own_clause (depth_of around)) cs.items) ∷ [],
+    ap (λ (j : Instr). (own_instr b (depth_of around) j).items) h.0 ∙ ap (λ (o : Option InstrSeq). Block (block_of o) ∷ ManyClauses (map (own_clause (depth_of around)) cs.items) ∷ []) found,
+  )
 
 -- ---- the walk
 
@@ -146,7 +149,120 @@ module _ (Alike : BlockType → BlockType → Type 0) (Typed : InstrSeqType → 
       all (o ∷ xs) (inl (inr h)) = inr (all xs (inl h))
       all (o ∷ xs) (inr h) = inr (all xs (inr h))
 
-  walked : (t : Tree) (around : List ℕ) (k : ℕ) (ty : InstrSeqType) (w : BlockType) (met : ℕ → Bool) (is : List (Instr × InstrLocId)) (e : InstrLocId) (ms : List Part) (f : Finish) (done : ℕ → Bool)
+  abbrev Ahead : InstrSeqType → BlockType → List Line → List Part → Tree → BlockType → Type 0
+  Ahead ty w lines ms t v = Forth Alike ((v ≡ own_block ty) × (ms ≡ [] → ⊥)) (line_ops b lines) (parts_there w t) v
+
+  abbrev Behind : BlockType → List Line → List Part → Tree → BlockType → Type 0
+  Behind w lines ms t u = Back Alike (u ≡ w) (ops_there t) (line_parts b lines ++ types b ms) u
+
+  alone : (x u : BlockType) → In (x ∷ []) u → x ≡ u
+  alone x u (inl e) = e
+  alone x u (inr h) = absurd h
+
+  module _ (o : Seen) (p : Option ℕ) (t : Tree) (ty own : InstrSeqType) (w : BlockType) (n : Part) (ms : List Part) (line : Line) (later : List Line) (bare : part_types b line.0 ≡ [])
+      (is : block_of (slice_get b n.seq) ≡ own_block own)
+      (turn : ((own ≡ ty) × (turn_part a (flow_of o.code) (to o).items w ≡ w ∷ [])) ⊎ ((u : BlockType) × (turn_part a (flow_of o.code) (to o).items w ≡ u ∷ []) × Alike (own_block own) u))
+      (inner : Both ty w later ms t) where
+    turn_some : n ∷ ms ≡ [] → ⊥
+    turn_some e = absurd cc
+
+    turn_more : (v : BlockType) → In (line_parts b later ++ types b ms) v → Ahead ty w (line ∷ later) (n ∷ ms) (Arm o p t) v
+    turn_more v i = forth_more Alike (line_ops b later) (line_ops b (line ∷ later)) (parts_there w t) (parts_there w (Arm o p t)) v (λ h. (h.0, turn_some)) (λ op j. inr j)
+        (λ x j. in_right (turn_part a (flow_of o.code) (to o).items w) (parts_there w t) x j) (inner.forth v i)
+
+    turn_new : (v : BlockType) → block_of (slice_get b n.seq) ≡ v → Ahead ty w (line ∷ later) (n ∷ ms) (Arm o p t) v
+    turn_new v e = elim turn as (λ _. Ahead ty w (line ∷ later) (n ∷ ms) (Arm o p t) v) [
+      | inl h ↦ its_own (sym e ∙ is ∙ ap own_block h.0, turn_some)
+      | inr h ↦ stands_for h.0 (in_left (turn_part a (flow_of o.code) (to o).items w) (parts_there w t) h.0 (subst (λ (l : List BlockType). In l h.0) (sym h.1) (inl refl)))
+          (subst (λ (z : BlockType). Alike z h.0) (sym is ∙ e) h.2)
+    ]
+
+    turn_ahead : (v : BlockType) → In (line_parts b (line ∷ later)) v ⊎ In (types b (n ∷ ms)) v → Ahead ty w (line ∷ later) (n ∷ ms) (Arm o p t) v
+    turn_ahead v (inl i) = turn_more v (in_left (line_parts b later) (types b ms) v (subst (λ (l : List BlockType). In (l ++ line_parts b later) v) bare i))
+    turn_ahead v (inr (inl e)) = turn_new v e
+    turn_ahead v (inr (inr i)) = turn_more v (in_right (line_parts b later) (types b ms) v i)
+
+    turn_wider : (v : BlockType) → In (line_parts b later ++ types b ms) v → In (line_parts b (line ∷ later) ++ types b (n ∷ ms)) v
+    turn_wider v i = elim (in_cases (line_parts b later) (types b ms) v i) as (λ _. In (line_parts b (line ∷ later) ++ types b (n ∷ ms)) v) [
+      | inl j ↦ in_left (line_parts b (line ∷ later)) (types b (n ∷ ms)) v (in_right (part_types b line.0) (line_parts b later) v j)
+      | inr j ↦ in_right (line_parts b (line ∷ later)) (types b (n ∷ ms)) v (inr j)
+    ]
+
+    turn_is : (u : BlockType) → In (turn_part a (flow_of o.code) (to o).items w) u → Behind w (line ∷ later) (n ∷ ms) (Arm o p t) u
+    turn_is u i = elim turn as (λ _. Behind w (line ∷ later) (n ∷ ms) (Arm o p t) u) [
+      | inl h ↦ its_own (sym (alone w u (subst (λ (l : List BlockType). In l u) h.1 i)))
+      | inr h ↦ stands_for (block_of (slice_get b n.seq)) (in_right (line_parts b (line ∷ later)) (types b (n ∷ ms)) (block_of (slice_get b n.seq)) (inl refl))
+          (subst (λ (z : BlockType). Alike z u) (sym is) (subst (Alike (own_block own)) (alone h.0 u (subst (λ (l : List BlockType). In l u) h.1 i)) h.2))
+    ]
+
+    turn_behind : (u : BlockType) → In (turn_part a (flow_of o.code) (to o).items w) u ⊎ In (parts_there w t) u → Behind w (line ∷ later) (n ∷ ms) (Arm o p t) u
+    turn_behind u (inl i) = turn_is u i
+    turn_behind u (inr i) = back_more Alike (ops_there t) (ops_there (Arm o p t)) (line_parts b later ++ types b ms) (line_parts b (line ∷ later) ++ types b (n ∷ ms)) u (λ h. h) (λ op j. inr j) turn_wider (inner.back u i)
+
+    turned : Both ty w (line ∷ later) (n ∷ ms) (Arm o p t)
+    turned = record {
+      forth = λ v i. turn_ahead v (in_cases (line_parts b (line ∷ later)) (types b (n ∷ ms)) v i);
+      back = λ u i. turn_behind u (in_cases (turn_part a (flow_of o.code) (to o).items w) (parts_there w t) u i);
+    }
+
+  module _ (o : Seen) (p : Option ℕ) (u t : Tree) (ty own : InstrSeqType) (w : BlockType) (ms inside : List Part) (line : Line) (block later : List Line) (held_types : part_types b line.0 ≡ types b inside)
+      (opened : (more : List Item) × ((own_seen b line.0).items ≡ Block (own_block own) ∷ more)) (there : (more : List Item) × ((to o).items ≡ Block (opened_with (to o).items) ∷ more))
+      (inner : Both own (opened_with (to o).items) block inside u) (outer : Both ty w later ms t) where
+    abbrev Whole : List Line
+    Whole = line ∷ (block ++ later)
+
+    nest_inner : (v : BlockType) → Ahead own (opened_with (to o).items) block inside u v → Ahead ty w Whole ms (Nest o p u t) v
+    nest_inner v (its_own h) = is_opened (own_seen b line.0, inl refl, opened.0, opened.1 ∙ ap (λ (z : BlockType). Block z ∷ opened.0) (sym h.0))
+    nest_inner v (is_opened h) = is_opened (opened_more (line_ops b block) (line_ops b Whole) v (λ op j. inr (ops_left b block later op j)) h)
+    nest_inner v (stands_for x j l) = stands_for x (in_left (parts_there (opened_with (to o).items) u) (parts_there w t) x j) l
+
+    nest_outer : (v : BlockType) → In (line_parts b later ++ types b ms) v → Ahead ty w Whole ms (Nest o p u t) v
+    nest_outer v i = forth_more Alike (line_ops b later) (line_ops b Whole) (parts_there w t) (parts_there w (Nest o p u t)) v (λ h. h) (λ op j. inr (ops_right b block later op j))
+        (λ x j. in_right (parts_there (opened_with (to o).items) u) (parts_there w t) x j) (outer.forth v i)
+
+    nest_ahead : (v : BlockType) → In (line_parts b Whole) v ⊎ In (types b ms) v → Ahead ty w Whole ms (Nest o p u t) v
+    nest_ahead v (inr i) = nest_outer v (in_right (line_parts b later) (types b ms) v i)
+    nest_ahead v (inl i) = elim (in_cases (part_types b line.0) (line_parts b (block ++ later)) v i) as (λ _. Ahead ty w Whole ms (Nest o p u t) v) [
+      | inl j ↦ nest_inner v (inner.forth v (in_right (line_parts b block) (types b inside) v (subst (λ (l : List BlockType). In l v) held_types j)))
+      | inr j ↦ elim (in_cases (line_parts b block) (line_parts b later) v (subst (λ (l : List BlockType). In l v) (parts_join b block later) j)) as (λ _. Ahead ty w Whole ms (Nest o p u t) v) [
+        | inl l ↦ nest_inner v (inner.forth v (in_left (line_parts b block) (types b inside) v l))
+        | inr l ↦ nest_outer v (in_left (line_parts b later) (types b ms) v l)
+      ]
+    ]
+
+    inner_wider : (v : BlockType) → In (line_parts b block ++ types b inside) v → In (line_parts b Whole ++ types b ms) v
+    inner_wider v i = in_left (line_parts b Whole) (types b ms) v (elim (in_cases (line_parts b block) (types b inside) v i) as (λ _. In (line_parts b Whole) v) [
+      | inl j ↦ in_right (part_types b line.0) (line_parts b (block ++ later)) v (subst (λ (l : List BlockType). In l v) (sym (parts_join b block later)) (in_left (line_parts b block) (line_parts b later) v j))
+      | inr j ↦ in_left (part_types b line.0) (line_parts b (block ++ later)) v (subst (λ (l : List BlockType). In l v) (sym held_types) j)
+    ])
+
+    outer_wider : (v : BlockType) → In (line_parts b later ++ types b ms) v → In (line_parts b Whole ++ types b ms) v
+    outer_wider v i = elim (in_cases (line_parts b later) (types b ms) v i) as (λ _. In (line_parts b Whole ++ types b ms) v) [
+      | inl j ↦ in_left (line_parts b Whole) (types b ms) v
+          (in_right (part_types b line.0) (line_parts b (block ++ later)) v (subst (λ (l : List BlockType). In l v) (sym (parts_join b block later)) (in_right (line_parts b block) (line_parts b later) v j)))
+      | inr j ↦ in_right (line_parts b Whole) (types b ms) v j
+    ]
+
+    inner_ops : (op : Seen) → In (ops_there u) op → In (ops_there (Nest o p u t)) op
+    inner_ops op j = inr (join_ops u t op (inl j))
+
+    back_inner : (x : BlockType) → Behind (opened_with (to o).items) block inside u x → Behind w Whole ms (Nest o p u t) x
+    back_inner x (its_own h) = is_opened (to o, inl refl, there.0, there.1 ∙ ap (λ (z : BlockType). Block z ∷ there.0) (sym h))
+    back_inner x (is_opened h) = is_opened (opened_more (ops_there u) (ops_there (Nest o p u t)) x inner_ops h)
+    back_inner x (stands_for v j l) = stands_for v (inner_wider v j) l
+
+    nest_behind : (x : BlockType) → In (parts_there (opened_with (to o).items) u) x ⊎ In (parts_there w t) x → Behind w Whole ms (Nest o p u t) x
+    nest_behind x (inl i) = back_inner x (inner.back x i)
+    nest_behind x (inr i) = back_more Alike (ops_there t) (ops_there (Nest o p u t)) (line_parts b later ++ types b ms) (line_parts b Whole ++ types b ms) x (λ h. h)
+        (λ op j. inr (join_ops u t op (inr j))) outer_wider (outer.back x i)
+
+    nested : Both ty w Whole ms (Nest o p u t)
+    nested = record {
+      forth = λ v i. nest_ahead v (in_cases (line_parts b Whole) (types b ms) v i);
+      back = λ x i. nest_behind x (in_cases (parts_there (opened_with (to o).items) u) (parts_there w t) x i);
+    }
+
+  pub walked : (t : Tree) (around : List ℕ) (k : ℕ) (ty : InstrSeqType) (w : BlockType) (met : ℕ → Bool) (is : List (Instr × InstrLocId)) (e : InstrLocId) (ms : List Part) (f : Finish) (done : ℕ → Bool)
       → RunsFit features t → Typed ty w → AllRanked rank (children_in is) → AllRanked rank (seqs_in ms) → lies (meaning s) t (map seq_of b) around k ty met is e ms f done
       → Both ty w (rest b around k is e ms f) ms t
   walked (Close o p) around k ty w met [] e [] f done fits typed ri rm h = record {
@@ -167,62 +283,7 @@ module _ (Alike : BlockType → BlockType → Type 0) (Typed : InstrSeqType → 
       let line : Line = (turn_piece n.turn, e) in
       let text : rest b around k [] e (n ∷ ms) f ≡ line ∷ later = ap (λ (l : List Line). line ∷ l) (seq_text plain b rank is_rank around n.seq y.0 ms f rm.0 y.1) in
       let own : block_of (slice_get b n.seq) ≡ own_block x.ty = ap block_of y.1 ∙ ap (λ (z : Seq). own_block z.ty) (sym y.2) in
-      again ty w (line ∷ later) (rest b around k [] e (n ∷ ms) f) (n ∷ ms) (Arm o p t) text (turned o p t ty x.ty w n ms f line later (piece_plain b (n ∷ ms) f) own (turns_typed ty x.ty w o n.turn typed turns) inner)
-    where
-      turned : (o : Seen) (p : Option ℕ) (t : Tree) (ty own : InstrSeqType) (w : BlockType) (n : Part) (ms : List Part) (f : Finish) (line : Line) (later : List Line) → part_types b line.0 ≡ []
-          → block_of (slice_get b n.seq) ≡ own_block own
-          → ((own ≡ ty) × (turn_part a (flow_of o.code) (to o).items w ≡ w ∷ [])) ⊎ ((u : BlockType) × (turn_part a (flow_of o.code) (to o).items w ≡ u ∷ []) × Alike (own_block own) u)
-          → Both ty w later ms t → Both ty w (line ∷ later) (n ∷ ms) (Arm o p t)
-      turned o p t ty own w n ms f line later bare is turn inner = record {
-        forth = λ v i. ahead v (in_cases (line_parts b (line ∷ later)) (types b (n ∷ ms)) v i);
-        back = λ u i. behind u (in_cases (turn_part a (flow_of o.code) (to o).items w) (parts_there w t) u i);
-      }
-        where
-          abbrev Here : BlockType → Type 0
-          Here v = Forth Alike ((v ≡ own_block ty) × (n ∷ ms ≡ [] → ⊥)) (line_ops b (line ∷ later)) (parts_there w (Arm o p t)) v
-
-          some : n ∷ ms ≡ [] → ⊥
-          some e = absurd cc
-
-          more : (v : BlockType) → In (line_parts b later ++ types b ms) v → Here v
-          more v i = forth_more Alike (line_ops b later) (line_ops b (line ∷ later)) (parts_there w t) (parts_there w (Arm o p t)) v (λ h. (h.0, some)) (λ op j. inr j)
-              (λ x j. in_right (turn_part a (flow_of o.code) (to o).items w) (parts_there w t) x j) (inner.forth v i)
-
-          new : (v : BlockType) → block_of (slice_get b n.seq) ≡ v → Here v
-          new v e = elim turn as (λ _. Here v) [
-            | inl h ↦ its_own (sym e ∙ is ∙ ap own_block h.0, some)
-            | inr h ↦ stands_for h.0 (in_left (turn_part a (flow_of o.code) (to o).items w) (parts_there w t) h.0 (subst (λ (l : List BlockType). In l h.0) (sym h.1) (inl refl)))
-                (subst (λ (z : BlockType). Alike z h.0) (sym is ∙ e) h.2)
-          ]
-
-          ahead : (v : BlockType) → In (line_parts b (line ∷ later)) v ⊎ In (types b (n ∷ ms)) v → Here v
-          ahead v (inl i) = more v (in_left (line_parts b later) (types b ms) v (subst (λ (l : List BlockType). In (l ++ line_parts b later) v) bare i))
-          ahead v (inr (inl e)) = new v e
-          ahead v (inr (inr i)) = more v (in_right (line_parts b later) (types b ms) v i)
-
-          abbrev There : BlockType → Type 0
-          There u = Back Alike (u ≡ w) (ops_there (Arm o p t)) (line_parts b (line ∷ later) ++ types b (n ∷ ms)) u
-
-          wider : (v : BlockType) → In (line_parts b later ++ types b ms) v → In (line_parts b (line ∷ later) ++ types b (n ∷ ms)) v
-          wider v i = elim (in_cases (line_parts b later) (types b ms) v i) as (λ _. In (line_parts b (line ∷ later) ++ types b (n ∷ ms)) v) [
-            | inl j ↦ in_left (line_parts b (line ∷ later)) (types b (n ∷ ms)) v (in_right (part_types b line.0) (line_parts b later) v j)
-            | inr j ↦ in_right (line_parts b (line ∷ later)) (types b (n ∷ ms)) v (inr j)
-          ]
-
-          turn_is : (u : BlockType) → In (turn_part a (flow_of o.code) (to o).items w) u → There u
-          turn_is u i = elim turn as (λ _. There u) [
-            | inl h ↦ its_own (sym (alone w u (subst (λ (l : List BlockType). In l u) h.1 i)))
-            | inr h ↦ stands_for (block_of (slice_get b n.seq)) (in_right (line_parts b (line ∷ later)) (types b (n ∷ ms)) (block_of (slice_get b n.seq)) (inl refl))
-                (subst (λ (z : BlockType). Alike z u) (sym is) (subst (Alike (own_block own)) (alone h.0 u (subst (λ (l : List BlockType). In l u) h.1 i)) h.2))
-          ]
-            where
-              alone : (x u : BlockType) → In (x ∷ []) u → x ≡ u
-              alone x u (inl e) = e
-              alone x u (inr h) = absurd h
-
-          behind : (u : BlockType) → In (turn_part a (flow_of o.code) (to o).items w) u ⊎ In (parts_there w t) u → There u
-          behind u (inl i) = turn_is u i
-          behind u (inr i) = back_more Alike (ops_there t) (ops_there (Arm o p t)) (line_parts b later ++ types b ms) (line_parts b (line ∷ later) ++ types b (n ∷ ms)) u (λ h. h) (λ op j. inr j) wider (inner.back u i)
+      again ty w (line ∷ later) (rest b around k [] e (n ∷ ms) f) (n ∷ ms) (Arm o p t) text (turned o p t ty x.ty w n ms line later (piece_plain b (n ∷ ms) f) own (turns_typed ty x.ty w o n.turn typed turns) inner)
   walked (Arm o p t) around k ty w met (i ∷ is) e ms f done fits typed ri rm h = absurd h
   walked (Skip o p t) around k ty w met [] e [] f done fits typed ri rm h = absurd h
   walked (Skip o p t) around k ty w met [] e (n ∷ ms) f done fits typed ri rm h = absurd h
@@ -262,62 +323,3 @@ module _ (Alike : BlockType → BlockType → Type 0) (Typed : InstrSeqType → 
       let items = opener_items b (k ∷ around) g i.0 q y.0 makes y.1 in
       let opened : (more : List Item) × ((own_seen b line.0).items ≡ Block (own_block x.ty) ∷ more) = (items.0, items.1 ∙ ap (λ (z : Seq). Block (own_block z.ty) ∷ items.0) (sym y.2)) in
       again ty w (line ∷ (block ++ later)) (rest b around k (i ∷ is) e ms f) ms (Nest o p u t) text (nested o p u t ty x.ty w ms q.more line block later held_types opened ot.1 inner outer)
-    where
-      nested : (o : Seen) (p : Option ℕ) (u t : Tree) (ty own : InstrSeqType) (w : BlockType) (ms inside : List Part) (line : Line) (block later : List Line) → part_types b line.0 ≡ types b inside
-          → (more : List Item) × ((own_seen b line.0).items ≡ Block (own_block own) ∷ more) → (more : List Item) × ((to o).items ≡ Block (opened_with (to o).items) ∷ more)
-          → Both own (opened_with (to o).items) block inside u → Both ty w later ms t → Both ty w (line ∷ (block ++ later)) ms (Nest o p u t)
-      nested o p u t ty own w ms inside line block later held_types opened there inner outer = record {
-        forth = λ v i. ahead v (in_cases (line_parts b (line ∷ (block ++ later))) (types b ms) v i);
-        back = λ x i. behind x (in_cases (parts_there (opened_with (to o).items) u) (parts_there w t) x i);
-      }
-        where
-          abbrev Here : BlockType → Type 0
-          Here v = Forth Alike ((v ≡ own_block ty) × (ms ≡ [] → ⊥)) (line_ops b (line ∷ (block ++ later))) (parts_there w (Nest o p u t)) v
-
-          from_inner : (v : BlockType) → Forth Alike ((v ≡ own_block own) × (inside ≡ [] → ⊥)) (line_ops b block) (parts_there (opened_with (to o).items) u) v → Here v
-          from_inner v (its_own h) = is_opened (own_seen b line.0, inl refl, opened.0, opened.1 ∙ ap (λ (z : BlockType). Block z ∷ opened.0) (sym h.0))
-          from_inner v (is_opened h) = is_opened (opened_more (line_ops b block) (line_ops b (line ∷ (block ++ later))) v (λ op j. inr (ops_left b block later op j)) h)
-          from_inner v (stands_for x j l) = stands_for x (in_left (parts_there (opened_with (to o).items) u) (parts_there w t) x j) l
-
-          from_outer : (v : BlockType) → In (line_parts b later ++ types b ms) v → Here v
-          from_outer v i = forth_more Alike (line_ops b later) (line_ops b (line ∷ (block ++ later))) (parts_there w t) (parts_there w (Nest o p u t)) v (λ h. h) (λ op j. inr (ops_right b block later op j))
-              (λ x j. in_right (parts_there (opened_with (to o).items) u) (parts_there w t) x j) (outer.forth v i)
-
-          ahead : (v : BlockType) → In (line_parts b (line ∷ (block ++ later))) v ⊎ In (types b ms) v → Here v
-          ahead v (inr i) = from_outer v (in_right (line_parts b later) (types b ms) v i)
-          ahead v (inl i) = elim (in_cases (part_types b line.0) (line_parts b (block ++ later)) v i) as (λ _. Here v) [
-            | inl j ↦ from_inner v (inner.forth v (in_right (line_parts b block) (types b inside) v (subst (λ (l : List BlockType). In l v) held_types j)))
-            | inr j ↦ elim (in_cases (line_parts b block) (line_parts b later) v (subst (λ (l : List BlockType). In l v) (parts_join b block later) j)) as (λ _. Here v) [
-              | inl l ↦ from_inner v (inner.forth v (in_left (line_parts b block) (types b inside) v l))
-              | inr l ↦ from_outer v (in_left (line_parts b later) (types b ms) v l)
-            ]
-          ]
-
-          abbrev There : BlockType → Type 0
-          There x = Back Alike (x ≡ w) (ops_there (Nest o p u t)) (line_parts b (line ∷ (block ++ later)) ++ types b ms) x
-
-          inner_wider : (v : BlockType) → In (line_parts b block ++ types b inside) v → In (line_parts b (line ∷ (block ++ later)) ++ types b ms) v
-          inner_wider v i = in_left (line_parts b (line ∷ (block ++ later))) (types b ms) v (elim (in_cases (line_parts b block) (types b inside) v i) as (λ _. In (line_parts b (line ∷ (block ++ later))) v) [
-            | inl j ↦ in_right (part_types b line.0) (line_parts b (block ++ later)) v (subst (λ (l : List BlockType). In l v) (sym (parts_join b block later)) (in_left (line_parts b block) (line_parts b later) v j))
-            | inr j ↦ in_left (part_types b line.0) (line_parts b (block ++ later)) v (subst (λ (l : List BlockType). In l v) (sym held_types) j)
-          ])
-
-          outer_wider : (v : BlockType) → In (line_parts b later ++ types b ms) v → In (line_parts b (line ∷ (block ++ later)) ++ types b ms) v
-          outer_wider v i = elim (in_cases (line_parts b later) (types b ms) v i) as (λ _. In (line_parts b (line ∷ (block ++ later)) ++ types b ms) v) [
-            | inl j ↦ in_left (line_parts b (line ∷ (block ++ later))) (types b ms) v
-                (in_right (part_types b line.0) (line_parts b (block ++ later)) v (subst (λ (l : List BlockType). In l v) (sym (parts_join b block later)) (in_right (line_parts b block) (line_parts b later) v j)))
-            | inr j ↦ in_right (line_parts b (line ∷ (block ++ later))) (types b ms) v j
-          ]
-
-          inner_ops : (op : Seen) → In (ops_there u) op → In (ops_there (Nest o p u t)) op
-          inner_ops op j = inr (join_ops u t op (inl j))
-
-          back_inner : (x : BlockType) → Back Alike (x ≡ opened_with (to o).items) (ops_there u) (line_parts b block ++ types b inside) x → There x
-          back_inner x (its_own h) = is_opened (to o, inl refl, there.0, there.1 ∙ ap (λ (z : BlockType). Block z ∷ there.0) (sym h))
-          back_inner x (is_opened h) = is_opened (opened_more (ops_there u) (ops_there (Nest o p u t)) x inner_ops h)
-          back_inner x (stands_for v j l) = stands_for v (inner_wider v j) l
-
-          behind : (x : BlockType) → In (parts_there (opened_with (to o).items) u) x ⊎ In (parts_there w t) x → There x
-          behind x (inl i) = back_inner x (inner.back x i)
-          behind x (inr i) = back_more Alike (ops_there t) (ops_there (Nest o p u t)) (line_parts b later ++ types b ms) (line_parts b (line ∷ (block ++ later)) ++ types b ms) x (λ h. h)
-              (λ op j. inr (join_ops u t op (inr j))) outer_wider (outer.back x i)
