@@ -8,11 +8,12 @@ use Rattle.wasm_rewriter.specs.declared.fault.Fault.TheVariants as faults
 use Rattle.wasm_rewriter.specs.declared.options.Options.{Options}
 use Rattle.wasm_rewriter.specs.declared.running.Summary.{Summary}
 use Rattle.wasm_rewriter.specs.Faults.{fault_of}
-use Rattle.wasm_rewriter.specs.Rewrites.{IsRefused, IsRewritten}
+use Rattle.wasm_rewriter.specs.Made.{IsRewritten}
+use Rattle.wasm_rewriter.specs.Rewrites.{IsRefused}
 use Rattle.wasm_rewriter.specs.Run.{Device, Writes, Runs, pairs_of, tells_of_bytes, tells_of_device}
 
 pub written_runs : (o : Options) (source sink places : Device) (input bytes : List ℕ) (pairs : Option (List (ℕ × ℕ))) (answer : Result Summary Fault)
-    → IsInput source.before source.after input → IsRewritten o input pairs → Writes bytes (pairs_of pairs) sink places answer → Runs o source sink places answer
+    → IsInput source.before source.after input → IsRewritten o input bytes pairs → Writes bytes (pairs_of pairs) sink places answer → Runs o source sink places answer
 written_runs o source sink places input bytes pairs (Ok summary) i r w = record { input = input; bytes = bytes; pairs = pairs; is_input = i; rewritten = r; written = w }
 written_runs o source sink places input bytes pairs (Err (faults.WriterFault n)) i r w = record { input = input; bytes = bytes; pairs = pairs; is_input = i; rewritten = r; written = w }
 written_runs o source sink places input bytes pairs (Err (faults.PlacesFault n)) i r w = record { input = input; bytes = bytes; pairs = pairs; is_input = i; rewritten = r; written = w }
@@ -30,9 +31,9 @@ of_input o input fault (inr l) = ap tells_of_device l.fault_is
 
 pub refused_runs : (o : Options) (source sink places : Device) (input : List ℕ) (fault : Fault)
     → IsInput source.before source.after input → IsRefused o input fault → Runs o source sink places (Err fault)
-refused_runs o source sink places input faults.ReaderFault i r = let bad : true ≡ false = of_input o input faults.ReaderFault r in cc
-refused_runs o source sink places input (faults.WriterFault n) i r = let bad : true ≡ false = of_input o input (faults.WriterFault n) r in cc
-refused_runs o source sink places input (faults.PlacesFault n) i r = let bad : true ≡ false = of_input o input (faults.PlacesFault n) r in cc
+refused_runs o source sink places input faults.ReaderFault i r = let bad : true ≡ false = of_input o input faults.ReaderFault r in absurd cc
+refused_runs o source sink places input (faults.WriterFault n) i r = let bad : true ≡ false = of_input o input (faults.WriterFault n) r in absurd cc
+refused_runs o source sink places input (faults.PlacesFault n) i r = let bad : true ≡ false = of_input o input (faults.PlacesFault n) r in absurd cc
 refused_runs o source sink places input faults.Memory i r = (input, i.at_most, i.read)
 refused_runs o source sink places input fault i r = record { input = input; is_input = i; refused = r }
 
