@@ -20,7 +20,7 @@ numbered_left m n pushed h = left_of numbered_function _ m n h
 
 module _ {A : Type 0} where
   -- a slot that is filled has an item
-  filled_at : (o : Option A) → IsSome o → (x : A) × (o ≡ Some x)
+  pub filled_at : (o : Option A) → IsSome o → (x : A) × (o ≡ Some x)
   filled_at None h = absurd cc
   filled_at (Some x) h = (x, refl)
 
