@@ -89,8 +89,8 @@ module _ (p : Plan) (m k : Module) (agree : AgreeOn p m k) where
       listed = λ space is. o.listed space is ∙ sym (ap (λ (l : List ℕ). l ++ o.own space) (brought_same space p.imports agree.imports));
       are_own = λ space is.
           at_all (λ (n : ℕ). import_of m space n ≡ None) (o.own space) (λ i n at.
-              let there = own_at space is i n at in
-              imports_same space there.0 n there.1 ∙ all_at (λ (n : ℕ). import_of k space n ≡ None) (o.own space) i n (o.are_own space is) at);
+          let there = own_at space is i n at in
+          imports_same space there.0 n there.1 ∙ all_at (λ (n : ℕ). import_of k space n ≡ None) (o.own space) i n (o.are_own space is) at);
       ordered = λ space is i j a b before at_i at_j. before_same space is i j a b at_i at_j (o.ordered space is i j a b before at_i at_j);
     }
 
