@@ -1,2 +1,10 @@
 mod Left
 mod Stay
+mod Reach
+mod Refs
+mod Low
+mod Walk
+mod Text
+mod Parts
+mod Found
+mod Kept
