@@ -7,4 +7,5 @@ mod Walk
 mod Text
 mod Parts
 mod Found
+mod Types
 mod Kept
