@@ -1,0 +1,11 @@
+mod Left
+mod Stay
+mod Reach
+mod Refs
+mod Low
+mod Walk
+mod Text
+mod Parts
+mod Found
+mod Types
+mod Kept
