@@ -124,7 +124,7 @@ module _ (Alike : BlockType → BlockType → Type 0) (Typed : InstrSeqType → 
     (a : Around) (to : Seen → Seen) (codes : (o : Seen) → (to o).code ≡ o.code) (place : Option ℕ → ℕ)
     (opens_typed : (o : Seen) (ty : InstrSeqType) → OpensOf s o ty → Typed ty (opened_with (to o).items) × ((more : List Item) × ((to o).items ≡ Block (opened_with (to o).items) ∷ more)))
     (turns_typed : (ty own : InstrSeqType) (w : BlockType) (o : Seen) (turn : Turn) → Typed ty w → TurnsTo s ty o turn own
-        → ((own ≡ ty) × (turn_part a (flow_of o.code) (to o).items w ≡ w ∷ [])) ⊎ ((u : BlockType) × (turn_part a (flow_of o.code) (to o).items w ≡ u ∷ []) × Alike (own_block own) u)) where
+    → ((own ≡ ty) × (turn_part a (flow_of o.code) (to o).items w ≡ w ∷ [])) ⊎ ((u : BlockType) × (turn_part a (flow_of o.code) (to o).items w ≡ u ∷ []) × Alike (own_block own) u)) where
   abbrev pub parts_there : BlockType → Tree → List BlockType
   parts_there w t = tree_parts a to codes place w t
 

@@ -96,7 +96,7 @@ module _ (t : Table) (P : Bool → Type 0) where
     picked_good gs h [] below = tt
     picked_good gs h (i ∷ order) below = (good_at gs h i below.0, picked_good gs h order below.1)
 
--- ---- as they are written
+  -- ---- as they are written
 
   kinds_many : (ns : List ℕ) → AllByRecursion IsThere ns → length (filter_map (written_kind t) ns) ≡ length ns
   kinds_many [] h = refl
