@@ -2,3 +2,4 @@ mod Added
 mod Retyped
 mod Agreed
 mod Emitted
+mod Wanted

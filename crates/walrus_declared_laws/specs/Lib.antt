@@ -2,3 +2,4 @@ pub mod Added
 pub mod Retyped
 pub mod Agreed
 pub mod Emitted
+pub mod Wanted

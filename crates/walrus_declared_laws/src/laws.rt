@@ -4,6 +4,7 @@ ghost use Rattle.walrus_declared_laws.specs.Added.{LastSegmentsAreAdded};
 ghost use Rattle.walrus_declared_laws.specs.Agreed.{AgreeingModulesAreOrdered};
 ghost use Rattle.walrus_declared_laws.specs.Emitted.{EmissionsDeclare};
 ghost use Rattle.walrus_declared_laws.specs.Retyped.{RetypedPartsAreSame};
+ghost use Rattle.walrus_declared_laws.specs.Wanted.{WantsAreTold};
 
 use wasm_operators::laws::renamings_compose;
 
@@ -27,4 +28,10 @@ pub fn retyped_parts_are_same()
 /// What is written of a module with the segment that was added for it is the part of the module without it, by a plan that adds the segment, in the same order.
 pub fn emissions_declare()
     ensures { EmissionsDeclare }
+{}
+
+/// By a plan that lists all that is there, the functions that are wanted are those to which bodies and globals refer, and those that are held those of exports and
+/// segments.
+pub fn wants_are_told()
+    ensures { WantsAreTold }
 {}
