@@ -3,3 +3,4 @@ mod Retyped
 mod Agreed
 mod Emitted
 mod Wanted
+mod Marks

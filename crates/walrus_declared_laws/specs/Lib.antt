@@ -3,3 +3,4 @@ pub mod Retyped
 pub mod Agreed
 pub mod Emitted
 pub mod Wanted
+pub mod Declared

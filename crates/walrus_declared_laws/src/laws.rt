@@ -2,6 +2,7 @@
 
 ghost use Rattle.walrus_declared_laws.specs.Added.{LastSegmentsAreAdded};
 ghost use Rattle.walrus_declared_laws.specs.Agreed.{AgreeingModulesAreOrdered};
+ghost use Rattle.walrus_declared_laws.specs.Declared.{UndeclaredAreDeclared};
 ghost use Rattle.walrus_declared_laws.specs.Emitted.{EmissionsDeclare};
 ghost use Rattle.walrus_declared_laws.specs.Retyped.{RetypedPartsAreSame};
 ghost use Rattle.walrus_declared_laws.specs.Wanted.{WantsAreTold};
@@ -35,3 +36,10 @@ pub fn emissions_declare()
 pub fn wants_are_told()
     ensures { WantsAreTold }
 {}
+
+/// The functions for which a module is given a segment, by what is known of its bodies, are those that bodies and globals refer to and that nothing holds.
+pub fn undeclared_are_declared<B>()
+    ensures { UndeclaredAreDeclared B }
+{
+    wants_are_told();
+}
