@@ -2,3 +2,5 @@ mod Added
 mod Retyped
 mod Agreed
 mod Emitted
+mod Wanted
+mod Marks
