@@ -8,4 +8,6 @@ mod Text
 mod Parts
 mod Found
 mod Types
+mod Handled
 mod Kept
+mod Planned
