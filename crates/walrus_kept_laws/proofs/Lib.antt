@@ -9,5 +9,6 @@ mod Parts
 mod Found
 mod Types
 mod Handled
+mod Turns
 mod Kept
 mod Planned
