@@ -75,21 +75,23 @@ module _ (ids : List ℕ) where
 
   -- ---- what is picked for parameters and results
 
-  module _ (t : TypeTable) (a : Around)
-      (found : (ps rs : List ValType) (id : ℕ) → found_type ps rs t ≡ Some id → (n : ℕ) × (found_in a.same ps rs (types_of a.filled) ≡ Some n) × (slice_get ids n ≡ Some id)) where
-    by_found : (ps rs : List ValType) (own : InstrSeqType) (o : Option ℕ) → found_type ps rs t ≡ o → option_map MultiValue o ≡ Some own
+  module _ (t : TypeTable) (a : Around) where
+    abbrev pub IsFound : List ValType → List ValType → Type 0
+    IsFound ps rs = (id : ℕ) → found_type ps rs t ≡ Some id → (n : ℕ) × (found_in a.same ps rs (types_of a.filled) ≡ Some n) × (slice_get ids n ≡ Some id)
+
+    by_found : (ps rs : List ValType) → IsFound ps rs → (own : InstrSeqType) (o : Option ℕ) → found_type ps rs t ≡ o → option_map MultiValue o ≡ Some own
         → (w : BlockType) × (option_map blocks.Type (found_in a.same ps rs (types_of a.filled)) ≡ Some w) × BlocksAlike ids (own_block own) w
-    by_found ps rs own None e h = absurd (none-some own h)
-    by_found ps rs own (Some id) e h =
-        let n = found ps rs id e in
+    by_found ps rs found own None e h = absurd (none-some own h)
+    by_found ps rs found own (Some id) e h =
+        let n = found id e in
         let is : MultiValue id ≡ own = same_Some (MultiValue id) own h in
         (blocks.Type n.0, ap (option_map blocks.Type) n.1, subst (λ (x : InstrSeqType). BlocksAlike ids (own_block x) (blocks.Type n.0)) is (type_alike id n.0 n.2))
 
-    pub picked_alike : (ps rs : List ValType) (own : InstrSeqType) → ((ty : ValType) → In rs ty → AreFixed ty) → picked ps rs t ≡ Some own
+    pub picked_alike : (ps rs : List ValType) → IsFound ps rs → (own : InstrSeqType) → ((ty : ValType) → In rs ty → AreFixed ty) → picked ps rs t ≡ Some own
         → (w : BlockType) × (pick a ps rs ≡ Some w) × BlocksAlike ids (own_block own) w
-    picked_alike [] [] own fixed e =
+    picked_alike [] [] found own fixed e =
         (blocks.Empty, refl, subst (λ (x : InstrSeqType). BlocksAlike ids (own_block x) blocks.Empty) (same_Some (Simple None) own e) (record { forth = λ vl wl z i. absurd i; back = λ vl wl u i. absurd i }))
-    picked_alike [] (r ∷ []) own fixed e =
+    picked_alike [] (r ∷ []) found own fixed e =
         (blocks.Value (value_from r), refl, subst (λ (x : InstrSeqType). BlocksAlike ids (own_block x) (blocks.Value (value_from r))) (same_Some (Simple (Some r)) own e) (value_alike r (fixed r (inl refl))))
-    picked_alike [] (r ∷ (q ∷ rs)) own fixed e = by_found [] (r ∷ (q ∷ rs)) own (found_type [] (r ∷ (q ∷ rs)) t) refl e
-    picked_alike (p ∷ ps) rs own fixed e = by_found (p ∷ ps) rs own (found_type (p ∷ ps) rs t) refl e
+    picked_alike [] (r ∷ (q ∷ rs)) found own fixed e = by_found [] (r ∷ (q ∷ rs)) found own (found_type [] (r ∷ (q ∷ rs)) t) refl e
+    picked_alike (p ∷ ps) rs found own fixed e = by_found (p ∷ ps) rs found own (found_type (p ∷ ps) rs t) refl e

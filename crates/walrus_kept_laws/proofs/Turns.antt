@@ -53,7 +53,7 @@ use Rattle.walrus_pairing.specs.Looks.{◌>>=◌}
 use Rattle.walrus_index_maps.specs.declared.space.Space.TheVariants as words
 use Rattle.wasm_ref_types.specs.Reference.{reference}
 use Rattle.walrus_pairing.specs.Types.{read_abstract, read_heap, read_value}
-use Rattle.walrus_body_rules.specs.Sights.{Sight, handler_of, look, results_of, tag_params, written_block}
+use Rattle.walrus_body_rules.specs.Sights.{Sight, block_of, function_block, handler_of, look, results_of, tag_params, value_block, written_block}
 use Rattle.walrus_body_nesting.specs.Stands.{Turn, Otherwise, Handles, HandlesAll}
 use Rattle.walrus_body_steps.specs.Meanings.{OpensOf, TurnsTo}
 use Rattle.walrus_module_env.specs.Env.{if_own, is_own, own_pick, tag_type_at}
@@ -220,3 +220,170 @@ module _ (k own_types : ℕ) (ids : List ℕ) (t : TypeTable) (tags : Arena Tag)
         → (n : ℕ) × (found_in a.same ps rs (types_of a.filled) ≡ Some n) × (slice_get ids n ≡ Some id)
     pub finds : (test : ℕ × TypeItem → Bool) → FindsLatest test t
     pub same_is : SameKindIsEquality
+
+  module _ (h : SeesAlike) where
+    -- a block that is of the one type in memory is of the other there: it gives the same
+    abbrev pub Typed : InstrSeqType → BlockType → Type 0
+    Typed ty w = (rs : List ValType) → results_of s ty ≡ Some rs → (results_there a.filled w ≡ rs) × AllGood k rs
+
+    none_good : AllGood k []
+    none_good ty i = absurd i
+
+    -- ---- what a type of the file gives
+
+    params_known : (id : ℕ) → id < k → (ps : List ValType) → s.params id ≡ Some ps → (kind_params (slice_get (types_of a.filled) id) ≡ ps) × AllGood k ps
+    params_known id lt ps e = by (type_at t id) refl (sym (h.takes id) ∙ e)
+      where
+        by : (o : Option TypeItem) → type_at t id ≡ o → option_and_then (λ (x : TypeItem). form_params x.kind.form) o ≡ Some ps → (kind_params (slice_get (types_of a.filled) id) ≡ ps) × AllGood k ps
+        by None at f = absurd (none-some ps f)
+        by (Some x) at f =
+            let there = h.known id lt x at in
+            let both = params_good k x.kind (h.kinds id x.kind there) x.kind.form refl ps f in
+            (ap kind_params there ∙ both.0, both.1)
+
+    results_known : (id : ℕ) → id < k → (rs : List ValType) → results_at t id ≡ Some rs → (kind_results (slice_get (types_of a.filled) id) ≡ rs) × AllGood k rs
+    results_known id lt rs e = by (type_at t id) refl e
+      where
+        by : (o : Option TypeItem) → type_at t id ≡ o → option_and_then (λ (x : TypeItem). form_gives x.kind.form) o ≡ Some rs → (kind_results (slice_get (types_of a.filled) id) ≡ rs) × AllGood k rs
+        by None at f = absurd (none-some rs f)
+        by (Some x) at f =
+            let there = h.known id lt x at in
+            let both = results_good k x.kind (h.kinds id x.kind there) x.kind.form refl rs f in
+            (ap kind_results there ∙ both.0, both.1)
+
+    -- ---- what is picked gives what it was picked for
+
+    found_gives : (ps rs : List ValType) (ty : InstrSeqType) (o : Option ℕ) → found_type ps rs t ≡ o → option_map MultiValue o ≡ Some ty → results_of s ty ≡ Some rs
+    found_gives ps rs ty None e f = absurd (none-some ty f)
+    found_gives ps rs ty (Some id) e f =
+        let latest : IsLatest (λ e. same_kind e.1.kind (function_kind ps rs)) t id =
+        subst (λ (o : Option ℕ). MatchOption o ((i : ℕ) (x : TypeItem) → type_at t i ≡ Some x → same_kind x.kind (function_kind ps rs) ≡ false) (IsLatest (λ e. same_kind e.1.kind (function_kind ps rs)) t)) e
+        (h.finds (λ e. same_kind e.1.kind (function_kind ps rs))) in
+        let kind_is : latest.item.kind ≡ function_kind ps rs = (h.same_is latest.item.kind (function_kind ps rs)).0 latest.passes in
+        ap (results_of s) (sym (same_Some (MultiValue id) ty f)) ∙ h.gives id ∙ ap (option_and_then (λ (x : TypeItem). form_gives x.kind.form)) latest.live ∙ ap (λ (x : Kind). form_gives x.form) kind_is
+
+    picked_gives : (ps rs : List ValType) (ty : InstrSeqType) → picked ps rs t ≡ Some ty → results_of s ty ≡ Some rs
+    picked_gives [] [] ty e = ap (results_of s) (sym (same_Some (Simple None) ty e))
+    picked_gives [] (q ∷ []) ty e = ap (results_of s) (sym (same_Some (Simple (Some q)) ty e))
+    picked_gives [] (q ∷ (p ∷ rs)) ty e = found_gives [] (q ∷ (p ∷ rs)) ty (found_type [] (q ∷ (p ∷ rs)) t) refl e
+    picked_gives (p ∷ ps) rs ty e = found_gives (p ∷ ps) rs ty (found_type (p ∷ ps) rs t) refl e
+
+    own_picked : (o : Option InstrSeqType) (ty : InstrSeqType) → if_own own_types o ≡ Some ty → o ≡ Some ty
+    own_picked None ty e = e
+    own_picked (Some x) ty e = by (is_own own_types x) e
+      where
+        by : (b : Bool) → (if b then Some x else None) ≡ Some ty → Some x ≡ Some ty
+        by true e = e
+        by false e = absurd (none-some ty e)
+
+    -- ---- blocks that operators open
+
+    function_typed : (n id : ℕ) → look s Types n ≡ Some id → (ps rs : Option (List ValType)) → s.params id ≡ ps → s.results id ≡ rs → (ty : InstrSeqType) → block_of s ps rs ≡ Some ty → Typed ty (blocks.Type (r Types n))
+    function_typed n id named None rs p q ty e us f = absurd (none-some ty e)
+    function_typed n id named (Some ps) None p q ty e us f = absurd (none-some ty e)
+    function_typed n id named (Some ps) (Some rs) p q ty e us f =
+        let gives = picked_gives ps rs ty (own_picked (picked ps rs t) ty (sym (h.picks_so ps rs) ∙ e)) in
+        let same : rs ≡ us = same_Some rs us (sym gives ∙ f) in
+        let both = results_known id (h.low n id named) us (sym (h.gives id) ∙ q ∙ ap (λ (l : List ValType). Some l) same) in
+        (ap (λ (m : ℕ). kind_results (slice_get (types_of a.filled) m)) (h.named n id named) ∙ both.0, both.1)
+
+    written_typed : (written : BlockType) (ty : InstrSeqType) → written_block s written ≡ Some ty → Typed ty (renamed_block r written)
+    written_typed blocks.Empty ty e us f =
+        let same : [] ≡ us = same_Some [] us (ap (results_of s) (same_Some (Simple None) ty e) ∙ f) in (same, subst (AllGood k) same none_good)
+    written_typed (blocks.Value v) ty e us f = by (read_value (look s Types) v) refl e
+      where
+        by : (o : Or ValType) → read_value (look s Types) v ≡ o → value_block o ≡ Some ty → (option_to_list (value_of (renamed_value r v)) ≡ us) × AllGood k us
+        by (Err x) q g = absurd (none-some ty g)
+        by (Ok x) q g =
+            let one = value_as (look s Types) r k h.named h.low v x q in
+            let same : x ∷ [] ≡ us = same_Some (x ∷ []) us (ap (results_of s) (same_Some (Simple (Some x)) ty g) ∙ f) in
+            (ap option_to_list one.0 ∙ same, subst (AllGood k) same (λ y i j n. alone x one.1 y i j n))
+          where
+            alone : (x : ValType) → ((j : ℕ) → value_name x ≡ Some j → j < k) → AllGood k (x ∷ [])
+            alone x good y (inl e) j n = good j (ap value_name e ∙ n)
+            alone x good y (inr i) j n = absurd i
+    written_typed (blocks.Type n) ty e us f = by (look s Types n) refl e
+      where
+        by : (o : Option ℕ) → look s Types n ≡ o → function_block s o ≡ Some ty → (results_there a.filled (blocks.Type (r Types n)) ≡ us) × AllGood k us
+        by None q g = absurd (none-some ty g)
+        by (Some id) q g = function_typed n id q (s.params id) (s.results id) refl refl ty g us f
+
+    pub opens_typed : (o : Seen) (ty : InstrSeqType) → OpensOf s o ty → Typed ty (opened_with (renamed_operator r o).items) × ((more : List Item) × ((renamed_operator r o).items ≡ Block (opened_with (renamed_operator r o).items) ∷ more))
+    opens_typed o ty (written, more, items, is) =
+        let there : (renamed_operator r o).items ≡ Block (renamed_block r written) ∷ map (renamed_item r) more = ap (map (renamed_item r)) items in
+        let opened : opened_with (renamed_operator r o).items ≡ renamed_block r written = ap opened_with there in
+        (subst (Typed ty) (sym opened) (written_typed written ty is), (map (renamed_item r) more, there ∙ ap (λ (w : BlockType). Block w ∷ map (renamed_item r) more) (sym opened)))
+
+    -- ---- handlers
+
+    fixed_all : (rs : List ValType) → AllGood k rs → (ty : ValType) → In rs ty → AreFixed ids ty
+    fixed_all rs good ty i z j = by (value_name ty) refl j
+      where
+        by : (o : Option ℕ) → value_name ty ≡ o → In (map (item spaces.«Type») (option_to_list o)) z → StandsFor ids z z
+        by None e j = absurd j
+        by (Some n) e (inl same) = h.fixed z (sym (ap (λ (x : grammar.Item). x.space) same)) (subst (λ (m : ℕ). m < k) (ap (λ (x : grammar.Item). x.number) same) (good ty i n e))
+        by (Some n) e (inr j) = absurd j
+
+    -- of these parameters and results
+    handled_alike : (ps rs : List ValType) (own : InstrSeqType) (w : BlockType) → AllGood k ps → AllGood k rs → results_there a.filled w ≡ rs → s.handler_type ps rs ≡ Some own → BlocksAlike ids (own_block own) (handled a ps w)
+    handled_alike ps rs own w good_ps good_rs there e =
+        let p = picked_alike ids t a ps rs (λ id f. h.found ps rs id (good_kind k ps rs good_ps good_rs) f) own (fixed_all rs good_rs) (sym (h.handles ps rs) ∙ e) in
+        subst (BlocksAlike ids (own_block own)) (sym (ap (λ (us : List ValType). unwrap_or (pick a ps us) blocks.Empty) there ∙ ap (λ (o : Option BlockType). unwrap_or o blocks.Empty) p.1)) p.2
+
+    all_alike : (ty own : InstrSeqType) (w : BlockType) (o : Option (List ValType)) → Typed ty w → results_of s ty ≡ o → handler_of s (Some []) o ≡ Some own → BlocksAlike ids (own_block own) (handled a [] w)
+    all_alike ty own w None typed e f = absurd (none-some own f)
+    all_alike ty own w (Some rs) typed e f = let both = typed rs e in handled_alike [] rs own w none_good both.1 both.0 f
+
+    one_alike : (ty own : InstrSeqType) (w : BlockType) (ps : List ValType) (given : Option (List ValType)) (o : Option (List ValType)) → Typed ty w → given ≡ Some ps → AllGood k ps → results_of s ty ≡ o → handler_of s given o ≡ Some own
+        → BlocksAlike ids (own_block own) (handled a ps w)
+    one_alike ty own w ps given None typed is good e f = by given f
+      where
+        by : (given : Option (List ValType)) → handler_of s given None ≡ Some own → BlocksAlike ids (own_block own) (handled a ps w)
+        by None f = absurd (none-some own f)
+        by (Some us) f = absurd (none-some own f)
+    one_alike ty own w ps given (Some rs) typed is good e f =
+        let both = typed rs e in handled_alike ps rs own w good both.1 both.0 (ap (λ (g : Option (List ValType)). handler_of s g (Some rs)) (sym is) ∙ f)
+
+    -- what a handler of a tag is given
+    pub record GivenSo (tag n : ℕ) : Type 0 where
+      pub params : List ValType
+      pub here : tag_params s (s.tag_type tag) ≡ Some params
+      pub there : given_to a.filled (Names Tags (r Tags n) ∷ []) ≡ params
+      pub good : AllGood k params
+
+    given_so : (n tag : ℕ) → look s Tags n ≡ Some tag → (own : InstrSeqType) (o : Option (List ValType)) → handler_of s (tag_params s (s.tag_type tag)) o ≡ Some own → GivenSo tag n
+    given_so n tag looks own o e = by (s.tag_type tag) refl e
+      where
+        by_params : (ty : ℕ) → s.tag_type tag ≡ Some ty → (p : Option (List ValType)) → s.params ty ≡ p → handler_of s p o ≡ Some own → GivenSo tag n
+        by_params ty typed None q f = absurd (none-some own f)
+        by_params ty typed (Some ps) q f =
+            let there = h.tags_there tag ty (sym (h.tag_types tag) ∙ typed) in
+            let both = params_known ty there.0 ps q in
+            record {
+              params = ps;
+              here = ap (tag_params s) typed ∙ q;
+              there = ap (λ (m : ℕ). params_there a.filled (slice_index_or a.filled.tags m None)) (h.tagged n tag looks) ∙ ap (params_there a.filled) there.1.1
+                  ∙ ap (λ (m : ℕ). kind_params (slice_get (types_of a.filled) m)) there.1.2 ∙ both.0;
+              good = both.1;
+            }
+
+        by : (u : Option ℕ) → s.tag_type tag ≡ u → handler_of s (tag_params s u) o ≡ Some own → GivenSo tag n
+        by None typed f = absurd (none-some own f)
+        by (Some ty) typed f = by_params ty typed (s.params ty) refl f
+
+    abbrev pub Turned : InstrSeqType → InstrSeqType → BlockType → Seen → Type 0
+    Turned ty own w o = ((own ≡ ty) × (turn_part a (flow_of o.code) (renamed_operator r o).items w ≡ w ∷ []))
+        ⊎ ((u : BlockType) × (turn_part a (flow_of o.code) (renamed_operator r o).items w ≡ u ∷ []) × BlocksAlike ids (own_block own) u)
+
+    pub turns_typed : (ty own : InstrSeqType) (w : BlockType) (o : Seen) (turn : Turn) → Typed ty w → TurnsTo s ty o turn own → Turned ty own w o
+    turns_typed ty own w o Otherwise typed (flow, is) = inl (is, ap (λ (f : Option Flow). turn_part a f (renamed_operator r o).items w) flow)
+    turns_typed ty own w o (Handles tag) typed (flow, n, items, looks, is) =
+        let g = given_so n tag looks own (results_of s ty) is in
+        let there : (renamed_operator r o).items ≡ Names Tags (r Tags n) ∷ [] = ap (map (renamed_item r)) items in
+        inr (
+          handled a g.params w,
+          ap (λ (f : Option Flow). turn_part a f (renamed_operator r o).items w) flow ∙ ap (λ (l : List Item). handled a (given_to a.filled l) w ∷ []) there ∙ ap (λ (l : List ValType). handled a l w ∷ []) g.there,
+          one_alike ty own w g.params (tag_params s (s.tag_type tag)) (results_of s ty) typed g.here g.good refl is,
+        )
+    turns_typed ty own w o HandlesAll typed (flow, is) =
+        inr (handled a [] w, ap (λ (f : Option Flow). turn_part a f (renamed_operator r o).items w) flow, all_alike ty own w (results_of s ty) typed refl is)
