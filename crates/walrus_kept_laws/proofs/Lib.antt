@@ -8,4 +8,7 @@ mod Text
 mod Parts
 mod Found
 mod Types
+mod Handled
+mod Turns
 mod Kept
+mod Planned
