@@ -534,7 +534,7 @@ alone false b e none = absurd (false≢true e)
 -- ---- of a module
 
 module _ {B : Type 0} (told : WantsAreTold) (input : Module B) (facts : List BodyFacts) (known : AllZip AreFacts (local_entries (entries input.funcs)) facts) (p : Plan)
-  (lists : ListsAll p (numbered (parts input))) (there : (n : ℕ) → Wants (numbered (parts input)) p n → n < length (numbered (parts input)).functions) where
+    (lists : ListsAll p (numbered (parts input))) (there : (n : ℕ) → Wants (numbered (parts input)) p n → n < length (numbered (parts input)).functions) where
   abbrev m : grammar.Module
   m = numbered (parts input)
 
@@ -551,7 +551,7 @@ module _ {B : Type 0} (told : WantsAreTold) (input : Module B) (facts : List Bod
   referred_is =
       slots_marks mark_global own_global global_refs refl global_marks 0 input.globals.slots (fold mark_body start facts)
       ∙ ap (λ (s : List Bool). fold mark s (flat_map global_refs m.globals)) (
-          facts_marks (local_entries (entries input.funcs)) facts start known ∙ ap (λ (l : List ℕ). fold mark start l) (all_bodies input.locals 0 input.funcs.slots)
+      facts_marks (local_entries (entries input.funcs)) facts start known ∙ ap (λ (l : List ℕ). fold mark start l) (all_bodies input.locals 0 input.funcs.slots)
       )
       ∙ sym (fold_both start (flat_map function_refs m.functions) (flat_map global_refs m.globals))
 
@@ -608,9 +608,9 @@ module _ {B : Type 0} (told : WantsAreTold) (input : Module B) (facts : List Bod
   by_list [] e = λ n w. elim (cases_Bool (is_marked (declared input) n)) as (λ _. Holds m p n) [
     | inl marked ↦ marked_holds n marked
     | inr not_so ↦ (
-      let h = wants_found n w (λ held_so. false≢true (sym not_so ∙ holds_marked n (wants_marked n w).0 held_so)) in
+        let h = wants_found n w (λ held_so. false≢true (sym not_so ∙ holds_marked n (wants_marked n w).0 held_so)) in
         absurd (none-some n (ap (λ (l : List ℕ). slice_get l h.0) e ∙ h.1))
-    )
+        )
   ]
   by_list (k ∷ ns) e = (
     subst (λ (l : List ℕ). Rise l) (sym e) (run_rises test 0 count).rise,

@@ -188,13 +188,13 @@ module _ (p : Plan) (m : Module) (lists : ListsAll p m) where
   wants_back : (n : ℕ) → Has (wanted m) n → Wants m p n
   wants_back n h = elim (either_has (flat_map function_refs m.functions) (flat_map global_refs m.globals) n h) as (λ _. Wants m p n) [
     | inl here ↦ (
-      let s = from_slot function_refs refl m.functions n here in
+        let s = from_slot function_refs refl m.functions n here in
         Wants.body s.number s.item (lists.functions s.number s.item s.there) s.there (has_body n (s.item).origin s.has)
-    )
+        )
     | inr there ↦ (
-      let s = from_slot global_refs refl m.globals n there in
+        let s = from_slot global_refs refl m.globals n there in
         Wants.init s.number s.item (lists.globals s.number s.item s.there) s.there (has_init n (s.item).origin s.has)
-    )
+        )
   ]
 
   holds_on : (n : ℕ) → Holds m p n → Has (held m) n
@@ -207,14 +207,14 @@ module _ (p : Plan) (m : Module) (lists : ListsAll p m) where
   holds_back : (n : ℕ) → Has (held m) n → Holds m p n
   holds_back n h = elim (either_has (flat_map export_names m.exports) (flat_map element_names m.elements) n h) as (λ _. Holds m p n) [
     | inl here ↦ (
-      let s = from_slot export_names refl m.exports n here in
+        let s = from_slot export_names refl m.exports n here in
         let given = has_given (s.item).item.space (s.item).item.number n s.has in
         Holds.exported s.number s.item (lists.exports s.number s.item s.there) s.there given.0 given.1
-    )
+        )
     | inr there ↦ (
-      let s = from_slot element_names refl m.elements n there in
+        let s = from_slot element_names refl m.elements n there in
         Holds.segment s.number s.item (lists.elements s.number s.item s.there) s.there (has_items n (s.item).items s.has)
-    )
+        )
   ]
 
 pub wants_told : WantsAreTold

@@ -105,9 +105,10 @@ module _ (l : ℕ → Option ℕ) (r : Renaming) (k : ℕ) (named : (n id : ℕ)
       → (ok_or o (unknown words.«Type») >>= λ id. Ok (to id)) ≡ Ok ty → HeapAs h ty
   index_as n None e to name h is ty f = absurd cc
   index_as n (Some id) e to name h is ty f =
-      let same : to id ≡ ty = ok_is (to id) ty f in
-      (is ∙ ap (λ (m : ℕ). Some (to m)) (named n id e) ∙ ap (λ (x : HeapType). Some x) same,
-      λ j g. subst (λ (m : ℕ). m < k) (same_Some id j (sym (name id) ∙ ap heap_name same ∙ g)) (low n id e))
+      let same : to id ≡ ty = ok_is (to id) ty f in (
+        is ∙ ap (λ (m : ℕ). Some (to m)) (named n id e) ∙ ap (λ (x : HeapType). Some x) same,
+        λ j g. subst (λ (m : ℕ). m < k) (same_Some id j (sym (name id) ∙ ap heap_name same ∙ g)) (low n id e),
+      )
 
   heap_as : (h : ReadHeap) (ty : HeapType) → read_heap l h ≡ Ok ty → HeapAs h ty
   heap_as (Abstract false a) ty e = plain_as false a (read_abstract a) refl heaps.Abstract (λ x. refl) (λ x f. ap (option_map heaps.Abstract) f) ty e
@@ -124,9 +125,10 @@ module _ (l : ℕ → Option ℕ) (r : Renaming) (k : ℕ) (named : (n id : ℕ)
   ref_as nullable h (Err f) e ty g = absurd cc
   ref_as nullable h (Ok heap) e ty g =
       let same : values.Ref (record { nullable = nullable; heap_type = heap }) ≡ ty = ok_is (values.Ref (record { nullable = nullable; heap_type = heap })) ty g in
-      let one = heap_as h heap e in
-      (ap (λ (o : Option HeapType). option_map values.Ref (option_map (λ (x : HeapType). (let y : RefType = record { nullable = nullable; heap_type = x } in y)) o)) one.0 ∙ ap (λ (x : ValType). Some x) same,
-      λ j f. one.1 j (ap value_name same ∙ f))
+      let one = heap_as h heap e in (
+        ap (λ (o : Option HeapType). option_map values.Ref (option_map (λ (x : HeapType). (let y : RefType = record { nullable = nullable; heap_type = x } in y)) o)) one.0 ∙ ap (λ (x : ValType). Some x) same,
+        λ j f. one.1 j (ap value_name same ∙ f),
+      )
 
   pub value_as : (v : ReadValue) (ty : ValType) → read_value l v ≡ Ok ty → ValueAs v ty
   value_as reads.I32 ty e = (ap (λ (x : ValType). Some x) (ok_is values.I32 ty e), λ j f. absurd (none-some j (ap value_name (ok_is values.I32 ty e) ∙ f)))

@@ -220,10 +220,10 @@ module _ (t : TypeTable) where
       distinct_join (ids_in g.types) (flat_map (λ (e : Entry). ids_in e.1.types) (entries_from (n + 1) xs)) (members_distinct g.types (each 0 g refl))
       (flat_distinct (n + 1) xs (λ place h at. each (suc place) h at) (λ id p q h k at_p a at_q b. (let e = one id (suc p) (suc q) h k at_p a at_q b in omega (arith, e))))
       (λ x a b. (
-          let e = in_flat (λ (e : Entry). ids_in e.1.types) (entries_from (n + 1) xs) x b in
-          let r = entry_of (n + 1) xs e.0 e.1 in
-          let same = one x 0 (suc r.place) g e.0.1 refl (ids_from g.types x a) r.at (ids_from e.0.1.types x e.2) in
-          omega (arith, same)
+      let e = in_flat (λ (e : Entry). ids_in e.1.types) (entries_from (n + 1) xs) x b in
+      let r = entry_of (n + 1) xs e.0 e.1 in
+      let same = one x 0 (suc r.place) g e.0.1 refl (ids_from g.types x a) r.at (ids_from e.0.1.types x e.2) in
+      omega (arith, same)
       ))
 
   pub ids_once : AreGrouped t → AreOnce (type_ids t)
