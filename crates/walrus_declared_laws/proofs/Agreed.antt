@@ -128,4 +128,4 @@ module _ (p : Plan) (m k : Module) (agree : AgreeOn p m k) where
   declared_on (ns ∷ ks ∷ nss) h = h
 
 pub agreeing_ordered : AgreeingModulesAreOrdered
-agreeing_ordered p m k agree = record { ordered = λ o. in_order p m k agree o; declared = declared_on p m k agree }
+agreeing_ordered p m k agree = record { ordered = λ o. in_order p m k agree o; wants = wants_on p m k agree; declared = declared_on p m k agree }

@@ -4,3 +4,4 @@ mod Agreed
 mod Emitted
 mod Wanted
 mod Marks
+mod There

@@ -5,7 +5,7 @@ ghost use Rattle.walrus_declared_laws.specs.Agreed.{AgreeingModulesAreOrdered};
 ghost use Rattle.walrus_declared_laws.specs.Declared.{UndeclaredAreDeclared};
 ghost use Rattle.walrus_declared_laws.specs.Emitted.{EmissionsDeclare};
 ghost use Rattle.walrus_declared_laws.specs.Retyped.{RetypedPartsAreSame};
-ghost use Rattle.walrus_declared_laws.specs.Wanted.{WantsAreTold};
+ghost use Rattle.walrus_declared_laws.specs.Wanted.{WantedAreThere, WantsAreTold};
 
 use wasm_operators::laws::renamings_compose;
 
@@ -43,3 +43,8 @@ pub fn undeclared_are_declared<B>()
 {
     wants_are_told();
 }
+
+/// The functions to which bodies and globals refer, of a module that meets the rules, are there.
+pub fn wanted_are_there()
+    ensures { WantedAreThere }
+{}
