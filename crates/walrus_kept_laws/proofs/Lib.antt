@@ -10,5 +10,6 @@ mod Found
 mod Types
 mod Handled
 mod Turns
+mod Fit
 mod Kept
 mod Planned
