@@ -11,5 +11,6 @@ mod Types
 mod Handled
 mod Turns
 mod Fit
+mod Functions
 mod Kept
 mod Planned
