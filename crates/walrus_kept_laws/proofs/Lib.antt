@@ -12,5 +12,6 @@ mod Handled
 mod Turns
 mod Fit
 mod Functions
+mod Locals
 mod Kept
 mod Planned
