@@ -10,5 +10,8 @@ mod Found
 mod Types
 mod Handled
 mod Turns
+mod Fit
+mod Functions
+mod Locals
 mod Kept
 mod Planned
