@@ -1,8 +1,8 @@
 -- Lemmas: the functions that are marked as referred to and as declared are those that a plan wants and holds.
-use Rattle.std.specs.Prelude.{ℕ, zero, suc, ◌≡◌, ◌+◌, ◌<◌, ◌≤◌, ◌⊎◌, ◌↔◌, ◌&&◌, ◌++◌, Bool, true, false, not, Contains, List, [], ◌∷◌, filter, fold, length, map, replicate, Option, Some, None, slice_get, slice_index_or, slice_set, refl, if◌then◌else◌}
+use Rattle.std.specs.Prelude.{ℕ, zero, suc, ◌≡◌, ◌+◌, ◌<◌, ◌≤◌, ◌⊎◌, ◌&&◌, ◌++◌, Bool, true, false, not, List, [], ◌∷◌, filter, fold, length, map, replicate, Option, Some, None, slice_get, refl, if◌then◌else◌}
 use Rattle.std.specs.List.{AllZip, flat_map}
 use Rattle.std.specs.Option.{option_map}
-use Rattle.std.proofs.Common.{inl, inr, ap, sym, subst, ◌∙◌, arith, append_assoc}
+use Rattle.std.proofs.Common.{inl, inr, ap, sym, subst, ◌∙◌, arith}
 use Rattle.std.proofs.lemmas.Bool.{cases_Bool, cases_lt, false≢true}
 use Rattle.std.proofs.lemmas.List.{length-map}
 use Rattle.std.proofs.lemmas.Option.{none-some, same_Some}
@@ -29,8 +29,8 @@ use Rattle.walrus_instr.specs.declared.instr.Value.TheVariants as constants
 use Rattle.walrus_instr.specs.declared.seq.InstrLocId.{InstrLocId}
 use Rattle.walrus_items.specs.declared.local.Local.{Local}
 use Rattle.walrus_local_function.specs.declared.local_function.LocalFunction.{LocalFunction}
-use Rattle.walrus_meaning.specs.Bodies.{depth_of, local_ids, own_body, own_instr, own_operators, own_piece, own_seen}
-use Rattle.walrus_meaning.specs.Meaning.{own_element, own_export, own_global, slots_of}
+use Rattle.walrus_meaning.specs.Bodies.{depth_of, local_ids, own_instr, own_piece, own_seen}
+use Rattle.walrus_meaning.specs.Meaning.{own_element, own_export, own_global}
 use Rattle.walrus_meaning.specs.Words.{const_seen, own_expr}
 use Rattle.walrus_module.specs.Parts.{parts}
 use Rattle.walrus_module.specs.declared.module.Module.{Module}
@@ -56,7 +56,6 @@ use Rattle.wasm_grammar.specs.Modules as grammar
 use Rattle.wasm_operators.specs.Items.{Types, Functions, Tables, Memories, Tags, Globals, ElementSegments, DataSegments, Locals, Labels, Item, Names, Number, S32, S64, Bits, Byte, Bytes, Heap, Block, Access, ManyLabels, ManyValues, ManyClauses}
 use Rattle.wasm_operators.specs.NameLaws.{same}
 use Rattle.wasm_operators.specs.Names.{Renaming, renamed_item, renamed_operator}
-use Rattle.wasm_operators.specs.Operators.{Seen}
 use Rattle.wasm_part.specs.Closed.{Rise}
 use Rattle.wasm_part.specs.Order.{HasDeclared, Holds, Wants}
 use Rattle.wasm_part.specs.Part.{Plan}
@@ -64,7 +63,7 @@ use Rattle.wasm_ruled_renamed.specs.Bodies.{with_numbers}
 use Rattle.wasm_ruled_renamed.specs.Renamed.{renamed_placed}
 use Rattle.walrus_types.proofs.Places.{Has, contains_has, has_contains}
 use Rattle.walrus_declared_laws.specs.Declared.{UndeclaredAreDeclared, in_one}
-use Rattle.walrus_declared_laws.specs.Wanted.{AreTold, ListsAll, WantsAreTold, element_names, export_names, function_refs, given_out, global_refs, held, held_names, init_refs, is_ref, origin_refs, referred_in, refs, single_refs, wanted}
+use Rattle.walrus_declared_laws.specs.Wanted.{AreTold, ListsAll, WantsAreTold, element_names, export_names, function_refs, global_refs, held, is_ref, referred_in, refs, single_refs, wanted}
 
 -- ---- what an instruction refers to
 
@@ -534,7 +533,7 @@ alone false b e none = absurd (false≢true e)
 -- ---- of a module
 
 module _ {B : Type 0} (told : WantsAreTold) (input : Module B) (facts : List BodyFacts) (known : AllZip AreFacts (local_entries (entries input.funcs)) facts) (p : Plan)
-  (lists : ListsAll p (numbered (parts input))) (there : (n : ℕ) → Wants (numbered (parts input)) p n → n < length (numbered (parts input)).functions) where
+    (lists : ListsAll p (numbered (parts input))) (there : (n : ℕ) → Wants (numbered (parts input)) p n → n < length (numbered (parts input)).functions) where
   abbrev m : grammar.Module
   m = numbered (parts input)
 
@@ -551,7 +550,7 @@ module _ {B : Type 0} (told : WantsAreTold) (input : Module B) (facts : List Bod
   referred_is =
       slots_marks mark_global own_global global_refs refl global_marks 0 input.globals.slots (fold mark_body start facts)
       ∙ ap (λ (s : List Bool). fold mark s (flat_map global_refs m.globals)) (
-          facts_marks (local_entries (entries input.funcs)) facts start known ∙ ap (λ (l : List ℕ). fold mark start l) (all_bodies input.locals 0 input.funcs.slots)
+      facts_marks (local_entries (entries input.funcs)) facts start known ∙ ap (λ (l : List ℕ). fold mark start l) (all_bodies input.locals 0 input.funcs.slots)
       )
       ∙ sym (fold_both start (flat_map function_refs m.functions) (flat_map global_refs m.globals))
 
@@ -608,9 +607,9 @@ module _ {B : Type 0} (told : WantsAreTold) (input : Module B) (facts : List Bod
   by_list [] e = λ n w. elim (cases_Bool (is_marked (declared input) n)) as (λ _. Holds m p n) [
     | inl marked ↦ marked_holds n marked
     | inr not_so ↦ (
-      let h = wants_found n w (λ held_so. false≢true (sym not_so ∙ holds_marked n (wants_marked n w).0 held_so)) in
+        let h = wants_found n w (λ held_so. false≢true (sym not_so ∙ holds_marked n (wants_marked n w).0 held_so)) in
         absurd (none-some n (ap (λ (l : List ℕ). slice_get l h.0) e ∙ h.1))
-    )
+        )
   ]
   by_list (k ∷ ns) e = (
     subst (λ (l : List ℕ). Rise l) (sym e) (run_rises test 0 count).rise,

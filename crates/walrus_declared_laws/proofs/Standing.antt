@@ -1,5 +1,5 @@
 -- Lemmas: what is written of a module that was read stands for its file.
-use Rattle.std.specs.Prelude.{ℕ, zero, suc, ◌≡◌, ◌+◌, ◌<◌, ◌++◌, true, Contains, List, [], ◌∷◌, length, map, Option, Some, None, slice_get, slice_index_or, refl}
+use Rattle.std.specs.Prelude.{ℕ, zero, suc, ◌≡◌, ◌+◌, ◌<◌, true, Contains, List, [], ◌∷◌, length, map, Option, Some, None, slice_index_or, refl}
 use Rattle.std.specs.Option.{option_map}
 use Rattle.std.proofs.Common.{ap, sym, subst, ◌∙◌, arith}
 use Rattle.std.proofs.lemmas.Option.{none-some}
@@ -13,7 +13,6 @@ use Rattle.walrus_index_maps.specs.Maps.{Ids}
 use Rattle.walrus_meaning.specs.Meaning.{means, own_function, type_ids}
 use Rattle.walrus_module.specs.Parts.{Module as Parts, parts}
 use Rattle.walrus_module.specs.declared.module.Module.{Module}
-use Rattle.walrus_module_items.specs.declared.function.Function.{Function}
 use Rattle.walrus_named_bodies.specs.Parsed.{read_features}
 use Rattle.walrus_parse_gc_laws.specs.Numbered.{numbered, numbered_function}
 use Rattle.walrus_parse_laws.specs.Meant.{place_of}
@@ -26,7 +25,7 @@ use Rattle.wasm_operators.specs.Names.{Renaming}
 use Rattle.wasm_part.specs.Agree.{PartsAgree}
 use Rattle.wasm_part.specs.Handlers.{handler_groups}
 use Rattle.wasm_part.specs.Order.{HasDeclared, Wants}
-use Rattle.wasm_part.specs.Part.{Plan, part}
+use Rattle.wasm_part.specs.Part.{Plan}
 use Rattle.walrus_kept_types_laws.specs.Kept.{FileTypesHaveTheirIndices, ReadTypesAreWritten}
 use Rattle.walrus_kept_types_laws.specs.Placed.{place_among, placed_indices}
 use Rattle.walrus_declared_laws.specs.Agreed.{AgreeingModulesAreOrdered, IsOrderedSo}
@@ -79,9 +78,9 @@ rest_is [] old new d = record { functions = ap (λ (x : Parts). (means x).functi
 rest_is (n ∷ ns) old new d = record { functions = ap (λ (x : Parts). (means x).functions) d.0; globals = ap (λ (x : Parts). (means x).globals) d.0; exports = ap (λ (x : Parts). (means x).exports) d.0 }
 
 module _ {B : Type 0} (written_types : ReadTypesAreWritten B) (indexed : FileTypesHaveTheirIndices B) (declare : EmissionsDeclare) (undeclared : UndeclaredAreDeclared B) (ordered_so : AgreeingModulesAreOrdered)
-  (parts_so : PartsAgree) (retype : RetypedPartsAreSame) (there : WantedAreThere) (brings : ReadModulesBringNoTypes)
-  (config : ModuleConfig) (bytes : List ℕ) (file : grammar.Module) (found : Ids) (read left : Module B) (facts : List BodyFacts) (written : Parts) (q : Plan) (indices : List (Option ℕ))
-  (w : IsWritten config bytes file found read left facts written q indices) where
+    (parts_so : PartsAgree) (retype : RetypedPartsAreSame) (there : WantedAreThere) (brings : ReadModulesBringNoTypes)
+    (config : ModuleConfig) (bytes : List ℕ) (file : grammar.Module) (found : Ids) (read left : Module B) (facts : List BodyFacts) (written : Parts) (q : Plan) (indices : List (Option ℕ))
+    (w : IsWritten config bytes file found read left facts written q indices) where
   abbrev fs : List ℕ
   fs = undeclared_of left facts
 
