@@ -5,3 +5,4 @@ mod Emitted
 mod Wanted
 mod Marks
 mod There
+mod Standing

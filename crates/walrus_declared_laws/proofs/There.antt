@@ -1,7 +1,7 @@
 -- Lemmas: the functions that are wanted of a module that meets the rules are there.
-use Rattle.std.specs.Prelude.{ℕ, zero, suc, ◌≡◌, ◌+◌, ◌<◌, nat_lt, Bool, true, false, List, [], ◌∷◌, ◌++◌, length, map, Option, Some, None, slice_get, slice_index_or, refl}
+use Rattle.std.specs.Prelude.{ℕ, zero, suc, ◌≡◌, ◌+◌, ◌<◌, nat_lt, List, [], ◌∷◌, ◌++◌, length, Option, Some, None, slice_get, slice_index_or, refl}
 use Rattle.std.specs.List.{AllByRecursion}
-use Rattle.std.proofs.Common.{ap, sym, subst, ◌∙◌, arith, length-append}
+use Rattle.std.proofs.Common.{ap, subst, ◌∙◌, arith}
 use Rattle.std.proofs.lemmas.Bool.{ltb-true}
 use Rattle.std.proofs.lemmas.List.{length-map}
 use Rattle.std.proofs.lemmas.Option.{none-some, same_Some}
@@ -11,20 +11,17 @@ use Rattle.wasm_body_grammar.specs.Bodies.{frames_of}
 use Rattle.wasm_body_grammar.specs.Codes.{param_count}
 use Rattle.wasm_body_grammar.specs.Frames.{Frame, Plain, label_count, turned}
 use Rattle.wasm_body_grammar.specs.Rules.{Around, room}
-use Rattle.wasm_features.specs.declared.WasmFeatures.{WasmFeatures}
-use Rattle.wasm_formats.specs.Stops.{Index, Trouble}
+use Rattle.wasm_formats.specs.Stops.{Index}
 use Rattle.wasm_formats.specs.declared.fault.Space.TheVariants as spaces
 use Rattle.wasm_grammar.specs.Exprs.{Known, items_test}
-use Rattle.wasm_grammar.specs.Modules.{Body, Expr, Function, Global, Imported, Module, Origin, Own, Placed}
+use Rattle.wasm_grammar.specs.Modules.{Body, Expr, Function, Global, Imported, Origin, Own, Placed}
 use Rattle.wasm_grammar.specs.States.{types_of}
 use Rattle.wasm_grammar.specs.Values.{must}
 use Rattle.wasm_module_rules.specs.Linked.{Each}
-use Rattle.wasm_normal_modules.specs.Modules.{MeetsRules}
 use Rattle.wasm_operators.specs.Items.{Functions, Names}
-use Rattle.wasm_operators.specs.Names.{Name, operator_names}
+use Rattle.wasm_operators.specs.Names.{operator_names}
 use Rattle.wasm_operators.specs.Operators.{Seen, flow_of, op_code}
 use Rattle.wasm_part.specs.Order.{BodyRefers, InitRefers, IsReference, Wants}
-use Rattle.wasm_part.specs.Part.{Plan}
 use Rattle.wasm_ruled_modules.specs.Rules.{AreKnown, AreOperators, GlobalsSee, HasBody, IsInit, OriginRuled, around_bodies, bare_slot, own_init}
 use Rattle.wasm_ruled_normal.proofs.Tests.{Within, names_within, passes}
 use Rattle.walrus_declared_laws.specs.Wanted.{WantedAreThere}

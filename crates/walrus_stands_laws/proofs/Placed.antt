@@ -170,7 +170,7 @@ pub record Turned (f : ℕ → Option ℕ) (ns : List ℕ) (k n : ℕ) : Type 0 
   pub gives : f x ≡ Some k
   pub gives_later : f y ≡ Some n
 
-RiseAll : List ℕ → Type 0
+abbrev RiseAll : List ℕ → Type 0
 RiseAll [] = Unit {0}
 RiseAll (n ∷ ns) = ((i m : ℕ) → slice_get ns i ≡ Some m → n < m) × RiseAll ns
 
@@ -180,28 +180,30 @@ rise_all (n ∷ ns) h = (λ i m e. h 0 (suc i) n m (omega arith) refl e, rise_al
 
 given_at : (f : ℕ → Option ℕ) (ns : List ℕ) (i n : ℕ) → slice_get (filter_map f ns) i ≡ Some n → (x : ℕ) × ((j : ℕ) × (slice_get ns j ≡ Some x)) × (f x ≡ Some n)
 given_at f [] i n e = absurd (none-some n e)
-given_at f (y ∷ ns) i n e = by (f y) refl i e
+given_at f (y ∷ ns) i n e = by (λ i e. given_at f ns i n e) (f y) refl i e
   where
-    by : (o : Option ℕ) → f y ≡ o → (i : ℕ) → slice_get (cons_option o (filter_map f ns)) i ≡ Some n → (x : ℕ) × ((j : ℕ) × (slice_get (y ∷ ns) j ≡ Some x)) × (f x ≡ Some n)
-    by None is i e = let g = given_at f ns i n e in (g.0, (suc g.1.0, g.1.1), g.2)
-    by (Some k) is zero e = (y, (zero, refl), is ∙ e)
-    by (Some k) is (suc i) e = let g = given_at f ns i n e in (g.0, (suc g.1.0, g.1.1), g.2)
+    by : ((i : ℕ) → slice_get (filter_map f ns) i ≡ Some n → (x : ℕ) × ((j : ℕ) × (slice_get ns j ≡ Some x)) × (f x ≡ Some n)) → (o : Option ℕ) → f y ≡ o → (i : ℕ)
+        → slice_get (cons_option o (filter_map f ns)) i ≡ Some n → (x : ℕ) × ((j : ℕ) × (slice_get (y ∷ ns) j ≡ Some x)) × (f x ≡ Some n)
+    by rest None is i e = let g = rest i e in (g.0, (suc g.1.0, g.1.1), g.2)
+    by rest (Some k) is zero e = (y, (zero, refl), is ∙ e)
+    by rest (Some k) is (suc i) e = let g = rest i e in (g.0, (suc g.1.0, g.1.1), g.2)
 
 turned : (f : ℕ → Option ℕ) (ns : List ℕ) → RiseAll ns → (i j k n : ℕ) → i < j → slice_get (filter_map f ns) i ≡ Some k → slice_get (filter_map f ns) j ≡ Some n → Turned f ns k n
 turned f [] h i j k n lt e_i e_j = absurd (none-some k e_i)
-turned f (y ∷ ns) h i j k n lt e_i e_j = by (f y) refl i j lt e_i e_j
+turned f (y ∷ ns) h i j k n lt e_i e_j = by (λ i j lt e_i e_j. turned f ns h.1 i j k n lt e_i e_j) (f y) refl i j lt e_i e_j
   where
     later : Turned f ns k n → Turned f (y ∷ ns) k n
     later t = record { x = t.x; y = t.y; less = t.less; gives = t.gives; gives_later = t.gives_later }
 
-    by : (o : Option ℕ) → f y ≡ o → (i j : ℕ) → i < j → slice_get (cons_option o (filter_map f ns)) i ≡ Some k → slice_get (cons_option o (filter_map f ns)) j ≡ Some n → Turned f (y ∷ ns) k n
-    by None is i j lt e_i e_j = later (turned f ns h.1 i j k n lt e_i e_j)
-    by (Some q) is zero zero lt e_i e_j = absurd (omega (arith, lt))
-    by (Some q) is zero (suc j) lt e_i e_j =
+    by : ((i j : ℕ) → i < j → slice_get (filter_map f ns) i ≡ Some k → slice_get (filter_map f ns) j ≡ Some n → Turned f ns k n) → (o : Option ℕ) → f y ≡ o → (i j : ℕ) → i < j
+        → slice_get (cons_option o (filter_map f ns)) i ≡ Some k → slice_get (cons_option o (filter_map f ns)) j ≡ Some n → Turned f (y ∷ ns) k n
+    by rest None is i j lt e_i e_j = later (rest i j lt e_i e_j)
+    by rest (Some q) is zero zero lt e_i e_j = absurd (omega (arith, lt))
+    by rest (Some q) is zero (suc j) lt e_i e_j =
         let g = given_at f ns j n e_j in
         record { x = y; y = g.0; less = h.0 g.1.0 g.0 g.1.1; gives = is ∙ e_i; gives_later = g.2 }
-    by (Some q) is (suc i) zero lt e_i e_j = absurd (omega (arith, lt))
-    by (Some q) is (suc i) (suc j) lt e_i e_j = later (turned f ns h.1 i j k n (omega (arith, lt)) e_i e_j)
+    by rest (Some q) is (suc i) zero lt e_i e_j = absurd (omega (arith, lt))
+    by rest (Some q) is (suc i) (suc j) lt e_i e_j = later (rest i j (omega (arith, lt)) e_i e_j)
 
 -- a place of two lists is one of the first or of the second
 abbrev At : List ℕ → List ℕ → ℕ → ℕ → Type 0
