@@ -2,7 +2,7 @@
 
 ghost use Rattle.walrus_code_laws.specs.Bodies.{BodiesAreSpelled};
 ghost use Rattle.walrus_code_laws.specs.Code.{CodeIsSpelled};
-ghost use Rattle.walrus_code_laws.specs.Emissions.{EmissionsServeCode};
+ghost use Rattle.walrus_code_laws.specs.Emissions.{EmissionsServeCode, LinkedArgumentsAreOnce};
 ghost use Rattle.walrus_code_laws.specs.Parts.{CodeIsApart, PartCodeIsSpelled, PartsAreCanonical, PartsAreWritten};
 
 /// A body that can be written is the shortest spelling of the body that its function means, renamed by the numbers that items and locals have.
@@ -58,4 +58,9 @@ pub fn parts_are_canonical()
 /// By the numbers that emission gives, code is written by a plan of these numbers.
 pub fn emissions_serve_code<B>()
     ensures { EmissionsServeCode B }
+{}
+
+/// No function of a linked module has an argument twice.
+pub fn linked_arguments_are_once()
+    ensures { LinkedArgumentsAreOnce }
 {}

@@ -8,4 +8,10 @@ mod Text
 mod Parts
 mod Found
 mod Types
+mod Handled
+mod Turns
+mod Fit
+mod Functions
+mod Locals
 mod Kept
+mod Planned

@@ -9,6 +9,7 @@ use Rattle.walrus_forms.specs.Records.{TypeGroup}
 use Rattle.walrus_types.specs.Items.{Item as TypeItem, Group}
 use Rattle.walrus_types.specs.Table.{Table as TypeTable, HasMember, group_at, type_at}
 use Rattle.walrus_types.specs.TypeLaws.{AreGrouped}
+use Rattle.walrus_types.proofs.Places.{once_of}
 use Rattle.wasm_merged_modules.specs.Merged.{kinds_of}
 use Rattle.walrus_meaning.specs.Meaning.{group_kinds, has_kinds, own_groups, plain_kind, type_ids}
 use Rattle.walrus_pass_laws.proofs.Sets.{In, contains_of, flat_in, flat_same, in_flat, in_of}
@@ -62,6 +63,10 @@ distinct_join (x ∷ xs) ys h g apart = (λ i. either (cases xs ys x i), distinc
     either : In xs x ⊎ In ys x → ⊥
     either (inl a) = h.0 a
     either (inr b) = apart x (inl refl) b
+
+once_distinct : (xs : List ℕ) → AreOnce xs → Distinct xs
+once_distinct [] h = tt
+once_distinct (x ∷ xs) h = (λ i. (let n = in_get xs x i in let e = h zero (suc n.0) x refl n.1 in omega (arith, e)), once_distinct xs (λ i j id e f. (let z = h (suc i) (suc j) id e f in omega (arith, z))))
 
 -- ---- the ids of a group
 
@@ -204,3 +209,26 @@ module _ (t : TypeTable) where
   entry_of n (None ∷ xs) e h = let r = entry_of (n + 1) xs e h in record { place = suc r.place; is = (let z = r.is in omega (arith, z)); at = r.at }
   entry_of n (Some g ∷ xs) e (inl same) = record { place = 0; is = (let z : n ≡ e.0 = ap (λ (p : Entry). p.0) same in omega (arith, z)); at = ap (λ (p : Entry). Some p.1) same }
   entry_of n (Some g ∷ xs) e (inr h) = let r = entry_of (n + 1) xs e h in record { place = suc r.place; is = (let z = r.is in omega (arith, z)); at = r.at }
+
+  flat_distinct : (n : ℕ) (xs : List (Option Group)) → ((place : ℕ) (g : Group) → slice_index_or xs place None ≡ Some g → Distinct g.types)
+      → ((id p q : ℕ) (g h : Group) → slice_index_or xs p None ≡ Some g → In g.types id → slice_index_or xs q None ≡ Some h → In h.types id → p ≡ q)
+      → Distinct (flat_map (λ (e : Entry). ids_in e.1.types) (entries_from n xs))
+  flat_distinct n [] each one = tt
+  flat_distinct n (None ∷ xs) each one =
+      flat_distinct (n + 1) xs (λ place g at. each (suc place) g at) (λ id p q g h at_p a at_q b. (let e = one id (suc p) (suc q) g h at_p a at_q b in omega (arith, e)))
+  flat_distinct n (Some g ∷ xs) each one =
+      distinct_join (ids_in g.types) (flat_map (λ (e : Entry). ids_in e.1.types) (entries_from (n + 1) xs)) (members_distinct g.types (each 0 g refl))
+      (flat_distinct (n + 1) xs (λ place h at. each (suc place) h at) (λ id p q h k at_p a at_q b. (let e = one id (suc p) (suc q) h k at_p a at_q b in omega (arith, e))))
+      (λ x a b. (
+      let e = in_flat (λ (e : Entry). ids_in e.1.types) (entries_from (n + 1) xs) x b in
+      let r = entry_of (n + 1) xs e.0 e.1 in
+      let same = one x 0 (suc r.place) g e.0.1 refl (ids_from g.types x a) r.at (ids_from e.0.1.types x e.2) in
+      omega (arith, same)
+      ))
+
+  pub ids_once : AreGrouped t → AreOnce (type_ids t)
+  ids_once grouped =
+      distinct_once (type_ids t) (subst Distinct (sym ids_are) (
+      flat_distinct 0 t.groups (λ place g at. once_distinct g.types (once_of g.types (grouped.once place g at)))
+      (λ id p q g h at_p a at_q b. grouped.one id p q g h at_p (contains_of g.types id a) at_q (contains_of h.types id b))
+      ))

@@ -1,12 +1,12 @@
 -- A plan that lists what `gc::run` left of a module that was read has just what is kept of the file's module.
-use Rattle.std.specs.Prelude.{ℕ, ◌≡◌, ◌<◌, List, [], All, Contains, Option, Some, None, IsSome, slice_get, slice_index_or}
+use Rattle.std.specs.Prelude.{ℕ, ◌≡◌, List, [], Contains, Option, Some, None, IsSome, slice_get, slice_index_or}
 use Rattle.std.specs.List.{AllByRecursion}
 use Rattle.wasm_grammar.specs.Modules as grammar
 use Rattle.wasm_operators.specs.Items.{Space, Types, Functions, Tables, Memories, Tags, Globals, ElementSegments, DataSegments}
 use Rattle.wasm_part.specs.Handlers.{handler_groups}
 use Rattle.wasm_part.specs.Kept.{HasKept, ListsItems}
 use Rattle.wasm_part.specs.Part.{IsIn, Plan}
-use Rattle.wasm_part.specs.Seen.{file_seen}
+use Rattle.wasm_part.specs.Seen.{file_seen, seen_as}
 use Rattle.walrus_config.specs.declared.config.ModuleConfig.{ModuleConfig}
 use Rattle.walrus_index_maps.specs.Maps.{Ids}
 use Rattle.walrus_types.specs.TypeLaws.{AreGrouped}
@@ -16,10 +16,12 @@ use Rattle.walrus_module.specs.Parts.{Module, parts}
 use Rattle.walrus_meaning.specs.Meaning.{type_ids}
 use Rattle.walrus_passes.specs.Part.{IsKeptPart}
 use Rattle.walrus_refusals.specs.Sound.{IsSound}
-use Rattle.walrus_named_bodies.specs.Parsed.{IsReadAs, read_features}
+use Rattle.walrus_named_bodies.specs.Parsed.{read_features}
 use Rattle.walrus_parse_laws.specs.Meant.{place_of}
 use Rattle.walrus_parse_laws.specs.Means.{MeansFile}
+use Rattle.walrus_pass_laws.specs.Meant.{meant}
 use Rattle.walrus_parse_gc_laws.specs.Numbered.{numbered}
+use Rattle.walrus_kept_laws.specs.Alike.{KeptAlike}
 
 -- each item of the space that is there is listed, at its new number
 abbrev pub AreListed : {A : Type 0} → Plan → Space → List (Option A) → Type 0
@@ -41,8 +43,10 @@ pub record ListsJust (ids : List ℕ) (n : Module) (p : Plan) : Type 0 where
   pub only_types : (i place : ℕ) → slice_get (p.listed Types) i ≡ Some place → (id : ℕ) × (slice_get ids place ≡ Some id) × IsSome (written_type n.types id)
   pub declared : AllByRecursion (AllByRecursion (λ f. IsSome (slice_index_or (numbered n).functions f None))) p.declared
 
--- the ids are those of the module that was read
+-- where in a module that was read the same is kept by ids as by places, a plan that lists what is left has what is kept of the file's module: its bodies in normal form,
+-- its types merged, with those of handlers behind them
 abbrev pub PlansHaveKept : Type 0 → Type 0
-PlansHaveKept B = (config : ModuleConfig) (bytes : List ℕ) (file : grammar.Module) (m : Whole B) (found : Ids) → All (λ b. b < 256) bytes → IsReadAs config bytes m found → MeansFile config file m found
-    → AreGrouped m.types → IsSound (parts m) [] → (n : Module) → IsKeptPart (parts m) [] n → (p : Plan) → ListsJust (type_ids m.types) n p
+PlansHaveKept B = (config : ModuleConfig) (file : grammar.Module) (m : Whole B) (found : Ids) → MeansFile config file m found → AreGrouped m.types → IsSound (parts m) []
+    → KeptAlike (type_ids m.types) (meant (parts m)) (seen_as (read_features config) (numbered (parts m))) m.config.keep_segments []
+    → (n : Module) → IsKeptPart (parts m) [] n → (p : Plan) → ListsJust (type_ids m.types) n p
     → HasKept (file_seen place_of (read_features config) (handler_groups file) file) m.config.keep_segments [] p

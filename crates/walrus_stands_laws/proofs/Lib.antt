@@ -1,0 +1,3 @@
+mod Declared
+mod Turns
+mod Placed
