@@ -27,7 +27,7 @@ use Rattle.walrus_emit_numbers.specs.Order.{AreWithin, IsOrder}
 use Rattle.walrus_emit.specs.Written.{IsWritten}
 use Rattle.walrus_parse_laws.specs.Linked.{ReadModulesAreLinked}
 use Rattle.walrus_pass_laws.specs.LinkedKept.{GcKeepsLinked}
-use Rattle.walrus_code_laws.specs.Emissions.{ArgumentsAreOnce, EmissionsServeCode}
+use Rattle.walrus_code_laws.specs.Emissions.{ArgumentsAreOnce, EmissionsServeCode, IsByNumbers}
 use Rattle.walrus_own_ids_laws.specs.OwnIds.{KeptItemsHaveOwnIds, ReadItemsHaveOwnIds}
 use Rattle.walrus_places_laws.specs.Order.{FactsStandInOrder}
 use Rattle.walrus_plan_laws.specs.Emissions.{EmissionsHavePlans, ItemsHaveOwnIds}
@@ -42,7 +42,7 @@ run_within k zero most e = All-nil (λ (at : ℕ). at < most)
 run_within k (suc n) most e = All-cons (λ (at : ℕ). at < most) k (run_from (suc k) n) (omega (arith, e)) (run_within (suc k) n most (omega (arith, e)))
 
 within : (facts : List BodyFacts) (order : List ℕ) → IsOrder facts order → AreWithin facts order
-within facts order is = All-permutation (λ (at : ℕ). at < length facts) (run_from 0 (length facts)) order is.all (run_within 0 (length facts) (length facts) refl)
+within facts order is = All-permutation (λ (at : ℕ). at < length facts) (run_from 0 (length facts)) order is.all (run_within 0 (length facts) (length facts) (omega arith))
 
 -- ---- arguments
 
@@ -72,9 +72,9 @@ pub modules_planned : {B : Type 0} → WrittenModulesAreReady B → EmissionsHav
 modules_planned ready_of plans serve stand own_name contents old new bytes w linked ids =
     let ready = ready_of own_name contents old new bytes w linked ids in
     let plan = plans new w.facts w.order w.emitted ready in
-    let by_numbers = record { serves = plan.serves; own = plan.own; locals = λ n. refl; labels = λ n. refl } in
+    let by_numbers : IsByNumbers new w.facts w.order w.emitted.ids.items (plan_of new w.facts w.order w.emitted) = record { serves = plan.serves; own = plan.own; locals = λ n. refl; labels = λ n. refl } in
     let code = serve new w.facts w.order w.emitted.ids.items (plan_of new w.facts w.order w.emitted) by_numbers ready.known (within w.facts w.order ready.sorted)
-        (arguments (parts new) ready.bound.whole) in
+    (arguments (parts new) ready.bound.whole) in
     record { ready = ready; plan = plan; code = code; own = sym code.order ∙ stand w.facts w.order ready.sorted }
 
 pub kept_planned : {B : Type 0} → WrittenModulesArePlanned B → ReadModulesAreLinked B → GcKeepsLinked → ReadItemsHaveOwnIds B → KeptItemsHaveOwnIds → KeptModulesArePlanned B
