@@ -1,5 +1,6 @@
 //! Laws: functions with nothing to do but to call others, whose contracts hold of all modules.
 
+ghost use Rattle.walrus_rewritten_laws.specs.Bytes.{WrittenBytesAreCanonical};
 ghost use Rattle.walrus_rewritten_laws.specs.Planned.{KeptModulesArePlanned, WrittenModulesArePlanned};
 
 /// A linked module that was written, and whose items had their own ids, was written by the numbers of its plan: they serve for all standard sections (Core
@@ -22,4 +23,13 @@ pub fn kept_modules_are_planned<B>()
     walrus_pass_laws::passes::gc_keeps_linked();
     walrus_own_ids_laws::laws::read_items_have_own_ids::<B>();
     walrus_own_ids_laws::laws::kept_items_have_own_ids();
+}
+
+/// The bytes that were written are the canonical bytes of the part by its plan, with the custom sections that are due (Core Specification, binary format: modules).
+pub fn written_bytes_are_canonical<B>()
+    ensures { WrittenBytesAreCanonical B }
+{
+    walrus_due_laws::laws::types_are_spelled();
+    walrus_plan_laws::laws::segments_name_no_locals::<B>();
+    walrus_code_laws::laws::parts_are_canonical();
 }
