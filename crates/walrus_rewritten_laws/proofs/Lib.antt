@@ -1,2 +1,3 @@
 mod Planned
 mod Bytes
+mod Rewritten

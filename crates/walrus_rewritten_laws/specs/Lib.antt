@@ -1,3 +1,4 @@
 pub mod Made
 pub mod Planned
 pub mod Bytes
+pub mod Rewritten

@@ -2,6 +2,7 @@
 
 ghost use Rattle.walrus_rewritten_laws.specs.Bytes.{WrittenBytesAreCanonical};
 ghost use Rattle.walrus_rewritten_laws.specs.Planned.{KeptModulesArePlanned, WrittenModulesArePlanned};
+ghost use Rattle.walrus_rewritten_laws.specs.Rewritten.{MadeAreRewritten, SpelledPartsAreRewritten};
 
 /// A linked module that was written, and whose items had their own ids, was written by the numbers of its plan: they serve for all standard sections (Core
 /// Specification, indices).
@@ -32,4 +33,21 @@ pub fn written_bytes_are_canonical<B>()
     walrus_due_laws::laws::types_are_spelled();
     walrus_plan_laws::laws::segments_name_no_locals::<B>();
     walrus_code_laws::laws::parts_are_canonical();
+}
+
+/// Canonical bytes of the part that is kept of a file, with the custom sections that are written, are the file rewritten where the part has spellings.
+pub fn spelled_parts_are_rewritten()
+    ensures { SpelledPartsAreRewritten }
+{
+    wasm_canonical::laws::spelled_are_canonical();
+}
+
+/// What was written of what is kept of a module that was read is its file rewritten, with the pairs of places where they are asked for.
+pub fn made_are_rewritten<B>()
+    ensures { MadeAreRewritten B }
+{
+    kept_modules_are_planned::<B>();
+    written_bytes_are_canonical::<B>();
+    walrus_places_laws::laws::locations_are_places();
+    spelled_parts_are_rewritten();
 }
