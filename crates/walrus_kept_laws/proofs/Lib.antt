@@ -13,5 +13,6 @@ mod Turns
 mod Fit
 mod Functions
 mod Locals
+mod Bare
 mod Kept
 mod Planned
