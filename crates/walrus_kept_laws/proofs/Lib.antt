@@ -14,5 +14,6 @@ mod Fit
 mod Functions
 mod Locals
 mod Bare
+mod Context
 mod Kept
 mod Planned
