@@ -15,5 +15,6 @@ mod Functions
 mod Locals
 mod Bare
 mod Context
+mod Sees
 mod Kept
 mod Planned
