@@ -1,4 +1,9 @@
 mod Customs
 mod Dense
+mod File
+mod Fitting
 mod Groups
 mod Ruled
+mod Small
+mod TypeKinds
+mod Values

@@ -1,4 +1,6 @@
 pub mod Customs
 pub mod Dense
+pub mod Items
+pub mod Operators
 pub mod Ruled
 pub mod Whole

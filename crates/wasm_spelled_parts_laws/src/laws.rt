@@ -2,6 +2,8 @@
 
 ghost use Rattle.wasm_spelled_parts_laws.specs.Customs.{WrittenCustomsAreInOrder};
 ghost use Rattle.wasm_spelled_parts_laws.specs.Dense.{WrittenGroupsAreWritten, WrittenPartsAreDense};
+ghost use Rattle.wasm_spelled_parts_laws.specs.Items.{ReadItemsAreIn};
+ghost use Rattle.wasm_spelled_parts_laws.specs.Operators.{FittingNamesAreSmall, FittingOperatorsAreSpelled, RenamedOperatorsFit};
 ghost use Rattle.wasm_spelled_parts_laws.specs.Ruled.{CountedPartsAreRuled};
 
 /// The custom sections that are written of a file stand in their order (Core Specification, binary format: custom section).
@@ -29,4 +31,26 @@ pub fn counted_parts_are_ruled()
 {
     wasm_operators::laws::names_are_renamed();
     wasm_rewritten::laws::written_parts_are_ruled();
+}
+
+/// An operator within the ranges of its immediates stays there where what it names has new numbers within theirs (Core Specification, binary format: instructions).
+pub fn renamed_operators_fit()
+    ensures { RenamedOperatorsFit }
+{}
+
+/// Such an operator names numbers of 32 bits.
+pub fn fitting_names_are_small()
+    ensures { FittingNamesAreSmall }
+{}
+
+/// Such an operator has a spelling.
+pub fn fitting_operators_are_spelled()
+    ensures { FittingOperatorsAreSpelled }
+{}
+
+/// The items of what is read are within the limits of their formats.
+pub fn read_items_are_in()
+    ensures { ReadItemsAreIn }
+{
+    wasm_spelled_modules::laws::read_sections_are_spelled();
 }
