@@ -1,6 +1,7 @@
 -- Lemmas: the items of what is read are within their limits.
-use Rattle.std.specs.Prelude.{ℕ, zero, suc, ◌<◌, ◌≤◌, ◌^◌, ◌≡◌, ◌==◌, ◌⊎◌, drop, repeat, Bool, true, false, List, [], ◌∷◌, ◌++◌, All, fold, length, Option, Some, None, refl, if◌then◌else◌}
-use Rattle.std.specs.List.{AllByRecursion, filter_map}
+use Rattle.std.specs.Prelude.{ℕ, zero, suc, ◌<◌, ◌≤◌, ◌^◌, ◌≡◌, ◌==◌, ◌⊎◌, drop, Bool, true, false, List, [], ◌∷◌, ◌++◌, All, fold, length, Option, Some, None, refl, if◌then◌else◌}
+use Rattle.std.specs.List.{AllByRecursion, filter_map, repeat}
+use Rattle.walrus_forms.specs.Values.{nullable}
 use Rattle.std.proofs.Common.{ap, sym, ◌∙◌, subst, arith, inl, inr}
 use Rattle.walrus_forms.specs.Records.{TypeGroup}
 use Rattle.walrus_forms.specs.declared.value.RefType.{RefType}
@@ -169,7 +170,7 @@ module _ (features : WasmFeatures) where
   IsElement e = ItemsPart (element_of e).items
 
   func_in : RefIn features (nullable heaps.Func)
-  func_in = ((λ e. absurd cc, tt), inl refl), inr (refl, tt)
+  func_in = (((λ e. absurd cc, tt), inl refl), inr (refl, tt))
 
   element_in : (s : State) (flags : ℕ) (e : ElementForm) → (element_form_writer features s flags).fits e → IsElement e
   element_in s flags e h =
