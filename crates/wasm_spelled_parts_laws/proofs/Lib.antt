@@ -3,6 +3,10 @@ mod Dense
 mod File
 mod Fitting
 mod Groups
+mod Handled
+mod Ids
+mod Merged
+mod Normal
 mod Ruled
 mod Small
 mod TypeKinds

@@ -177,11 +177,18 @@ module _ (features : WasmFeatures) where
   members_fit [] h = tt
   members_fit (x ∷ xs) h = (h.0, members_fit xs h.1)
 
+  one_told : (x : Measured) → length (filter_map (λ (x : Measured). kind_of x.1) ((0, x.1) ∷ [])) ≤ 1
+  one_told x = go (kind_of x.1)
+    where
+      go : (o : Option Kind) → length (cons_option o []) ≤ 1
+      go None = omega arith
+      go (Some kind) = omega arith
+
   either_in : (on : Bool) → enables features GcTypes ≡ on → (x : GroupEntry) → either_type on (EitherFits features x) (SingleFits features x) → GroupIn features (type_group x)
-  either_in true e (inl g) h = (λ m. e, told_in (placed g.0.0 g.1) (placed_in g.0.0 g.1 (members_fit g.1 h.1)))
-  either_in true e (inr x) h = (λ m. absurd cc, told_in ((0, x.1) ∷ []) (member_in (0, x.1) h, tt))
+  either_in true e (inl g) h = (λ m. e, inl refl, told_in (placed g.0.0 g.1) (placed_in g.0.0 g.1 (members_fit g.1 h.1)))
+  either_in true e (inr x) h = (λ m. absurd cc, inr (one_told x), told_in ((0, x.1) ∷ []) (member_in (0, x.1) h, tt))
   either_in false e (inl g) h = absurd h
-  either_in false e (inr x) h = (λ m. absurd cc, told_in ((0, x.1) ∷ []) (member_in (0, x.1) h, tt))
+  either_in false e (inr x) h = (λ m. absurd cc, inr (one_told x), told_in ((0, x.1) ∷ []) (member_in (0, x.1) h, tt))
 
   pub group_in : (x : GroupEntry) → (group_placed features).fits x → GroupIn features (type_group x)
   group_in x h = either_in (enables features GcTypes) refl x h

@@ -53,9 +53,9 @@ module _ (features : WasmFeatures) where
     -- so are types that aren't final or have a supertype
     pub shown : HasGcTypes features ⊎ ((kind.final ≡ true) × (kind.supertype ≡ None))
 
-  -- so are groups that are written as one
+  -- so are groups that are written as one; another has one type at most
   abbrev pub GroupIn : TypeGroup → Type 0
-  GroupIn g = (g.marked ≡ true → HasGcTypes features) × AllByRecursion KindIn g.kinds
+  GroupIn g = (g.marked ≡ true → HasGcTypes features) × ((g.marked ≡ true) ⊎ (length g.kinds ≤ 1)) × AllByRecursion KindIn g.kinds
 
   -- ---- items
 

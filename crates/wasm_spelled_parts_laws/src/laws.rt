@@ -3,6 +3,7 @@
 ghost use Rattle.wasm_spelled_parts_laws.specs.Customs.{WrittenCustomsAreInOrder};
 ghost use Rattle.wasm_spelled_parts_laws.specs.Dense.{WrittenGroupsAreWritten, WrittenPartsAreDense};
 ghost use Rattle.wasm_spelled_parts_laws.specs.Items.{ReadItemsAreIn};
+ghost use Rattle.wasm_spelled_parts_laws.specs.Merged.{MergedItemsAreIn};
 ghost use Rattle.wasm_spelled_parts_laws.specs.Operators.{FittingNamesAreSmall, FittingOperatorsAreSpelled, RenamedOperatorsFit};
 ghost use Rattle.wasm_spelled_parts_laws.specs.Ruled.{CountedPartsAreRuled};
 
@@ -53,4 +54,15 @@ pub fn read_items_are_in()
     ensures { ReadItemsAreIn }
 {
     wasm_spelled_modules::laws::read_sections_are_spelled();
+}
+
+/// So are those of a file's module in normal form, with its types merged and those of its handlers behind them.
+pub fn merged_items_are_in()
+    ensures { MergedItemsAreIn }
+{
+    wasm_merged_modules::laws::types_are_merged();
+    wasm_normal_modules::laws::normal_forms_of_read_modules_are_ruled();
+    wasm_ruled_modules::laws::read_modules_are_ruled();
+    fitting_names_are_small();
+    renamed_operators_fit();
 }
