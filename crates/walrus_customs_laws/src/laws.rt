@@ -1,0 +1,27 @@
+//! Laws: functions with nothing to do, whose contracts hold of all that is due.
+
+ghost use Rattle.walrus_customs_laws.specs.Payloads.{NamesAreSpelled, ProducersAreSpelled};
+ghost use Rattle.walrus_customs_laws.specs.Sections.{CustomsAreSpelled, ReadCustomsAreSpelled};
+
+/// Custom sections that can be written are the shortest spelling of the module's (Core Specification, binary format: custom section): those of dynamic linking, or
+/// the others, without those of debuggers.
+pub fn customs_are_spelled<B>()
+    ensures { CustomsAreSpelled B }
+{}
+
+/// Where a module has the custom sections of a file, names and producers aside, these are those of the file.
+pub fn read_customs_are_spelled<B>()
+    ensures { ReadCustomsAreSpelled B }
+{
+    customs_are_spelled::<B>();
+}
+
+/// A section of names that can be written is the shortest spelling of the custom section of its payload, and there is none where there are no names.
+pub fn names_are_spelled()
+    ensures { NamesAreSpelled }
+{}
+
+/// A section of producers that can be written, with the entry of this tool, is the shortest spelling of the custom section of its payload.
+pub fn producers_are_spelled()
+    ensures { ProducersAreSpelled }
+{}
