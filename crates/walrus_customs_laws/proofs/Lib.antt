@@ -1,3 +1,4 @@
 mod Payloads
 mod Sections
 mod Listed
+mod There

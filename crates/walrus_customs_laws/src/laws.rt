@@ -2,6 +2,7 @@
 
 ghost use Rattle.walrus_customs_laws.specs.Payloads.{NamesAreSpelled, ProducersAreSpelled};
 ghost use Rattle.walrus_customs_laws.specs.Sections.{CustomsAreSpelled, ReadCustomsAreSpelled};
+ghost use Rattle.walrus_customs_laws.specs.There.{NamesAreThere};
 
 /// Custom sections that can be written are the shortest spelling of the module's (Core Specification, binary format: custom section): those of dynamic linking, or
 /// the others, without those of debuggers.
@@ -24,4 +25,9 @@ pub fn names_are_spelled()
 /// A section of producers that can be written, with the entry of this tool, is the shortest spelling of the custom section of its payload.
 pub fn producers_are_spelled()
     ensures { ProducersAreSpelled }
+{}
+
+/// What bears a name that a file gives is there: an item of the file, or a local of one of its functions (Core Specification, appendix Custom Sections: name section).
+pub fn names_are_there()
+    ensures { NamesAreThere }
 {}
