@@ -1,0 +1,7 @@
+mod Bodies
+mod Chunks
+mod Dense
+mod Lists
+mod Places
+mod Read
+mod Spelled
