@@ -2,3 +2,4 @@ mod Payloads
 mod Sections
 mod Listed
 mod There
+mod Items

@@ -243,29 +243,30 @@ module _ {T : Type 0} (key : T → ℕ) (number : T → Option ℕ) (named : T �
   Once (x ∷ xs) = ((y : T) → In xs y → key y ≡ key x → ⊥) × Once xs
 
   module _ (ids : List ℕ) (name : ℕ → Option (List ℕ)) where
-    -- each that has a number stands there, and each that stands there and has a name has that number
+    -- each that has a number and a name stands there, and each that stands there and has a name has that number
     pub record AreListed (xs : List T) : Type 0 where
       pub once : Once xs
-      pub told : (x : T) (n : ℕ) → In xs x → number x ≡ Some n → slice_get ids n ≡ Some (key x)
+      pub told : (x : T) (n : ℕ) (t : List ℕ) → In xs x → number x ≡ Some n → named x ≡ Some t → slice_get ids n ≡ Some (key x)
       pub names : (x : T) → In xs x → named x ≡ name (key x)
       pub has : (n id : ℕ) (t : List ℕ) → slice_get ids n ≡ Some id → name id ≡ Some t → (x : T) × In xs x × (key x ≡ id) × (number x ≡ Some n)
 
     some_one : (m n : ℕ) → (let some : ℕ → Option ℕ = λ k. Some k in some m ≡ some n) → m ≡ n
     some_one m n e = cc
 
-    entries_apart : (xs : List T) → Once xs → ((x : T) (n : ℕ) → In xs x → number x ≡ Some n → slice_get ids n ≡ Some (key x)) → Apart (entries xs)
+    entries_apart : (xs : List T) → Once xs → ((x : T) (n : ℕ) (t : List ℕ) → In xs x → number x ≡ Some n → named x ≡ Some t → slice_get ids n ≡ Some (key x)) → Apart (entries xs)
     entries_apart [] once told = tt
-    entries_apart (x ∷ xs) once told = add (number x) (named x) refl (entries_apart xs once.1 (λ y n h. told y n (inr h)))
+    entries_apart (x ∷ xs) once told = add (number x) (named x) refl refl (entries_apart xs once.1 (λ y n t h. told y n t (inr h)))
       where
-        add : (o : Option ℕ) (p : Option (List ℕ)) → number x ≡ o → Apart (entries xs) → Apart (entry o p ++ entries xs)
-        add None None is rest = rest
-        add (Some n) None is rest = rest
-        add None (Some t) is rest = rest
-        add (Some n) (Some t) is rest = (
+        add : (o : Option ℕ) (p : Option (List ℕ)) → number x ≡ o → named x ≡ p → Apart (entries xs) → Apart (entry o p ++ entries xs)
+        add None None is called rest = rest
+        add (Some n) None is called rest = rest
+        add None (Some t) is called rest = rest
+        add (Some n) (Some t) is called rest = (
           λ e h same.
               let r = in_flat (λ (y : T). entry (number y) (named y)) xs e h in
-              let y_is = told r.0 e.0 (inr r.1) (entry_is (number r.0) (named r.0) e r.2).0 in
-              let x_is = told x n (inl refl) is in
+              let one = entry_is (number r.0) (named r.0) e r.2 in
+              let y_is = told r.0 e.0 e.1 (inr r.1) one.0 one.1 in
+              let x_is = told x n t (inl refl) is called in
               once.0 r.0 r.1 (some_one (key r.0) (key x) (sym y_is ∙ ap (slice_get ids) same ∙ x_is)),
           rest,
         )
@@ -276,7 +277,7 @@ module _ {T : Type 0} (key : T → ℕ) (number : T → Option ℕ) (named : T �
         (λ e k.
             let r = in_flat (λ (x : T). entry (number x) (named x)) xs e (of_rising (entries xs) e k) in
             let is = entry_is (number r.0) (named r.0) e r.2 in
-            to_names name 0 ids e e.0 (key r.0) (h.told r.0 e.0 r.1 is.0) (omega arith) (sym (h.names r.0 r.1) ∙ is.1))
+            to_names name 0 ids e e.0 (key r.0) (h.told r.0 e.0 e.1 r.1 is.0 is.1) (omega arith) (sym (h.names r.0 r.1) ∙ is.1))
         (λ e k.
             let s = of_names name 0 ids e k in
             let r = h.has s.place s.id e.1 s.at s.is in

@@ -1,3 +1,4 @@
 pub mod Sections
 pub mod Payloads
 pub mod There
+pub mod Items

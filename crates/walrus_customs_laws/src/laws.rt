@@ -1,5 +1,6 @@
 //! Laws: functions with nothing to do, whose contracts hold of all that is due.
 
+ghost use Rattle.walrus_customs_laws.specs.Items.{ItemNamesAreListed};
 ghost use Rattle.walrus_customs_laws.specs.Payloads.{NamesAreSpelled, ProducersAreSpelled};
 ghost use Rattle.walrus_customs_laws.specs.Sections.{CustomsAreSpelled, ReadCustomsAreSpelled};
 ghost use Rattle.walrus_customs_laws.specs.There.{NamesAreThere};
@@ -30,4 +31,9 @@ pub fn producers_are_spelled()
 /// What bears a name that a file gives is there: an item of the file, or a local of one of its functions (Core Specification, appendix Custom Sections: name section).
 pub fn names_are_there()
     ensures { NamesAreThere }
+{}
+
+/// The names of items that are written are those of the items that a list has for each space, by their places there, where these are the numbers of what has a name.
+pub fn item_names_are_listed()
+    ensures { ItemNamesAreListed }
 {}
