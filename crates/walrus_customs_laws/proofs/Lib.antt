@@ -3,3 +3,4 @@ mod Sections
 mod Listed
 mod There
 mod Items
+mod Read

@@ -2,3 +2,4 @@ pub mod Sections
 pub mod Payloads
 pub mod There
 pub mod Items
+pub mod Read

@@ -2,6 +2,7 @@
 
 ghost use Rattle.walrus_customs_laws.specs.Items.{ItemNamesAreListed};
 ghost use Rattle.walrus_customs_laws.specs.Payloads.{NamesAreSpelled, ProducersAreSpelled};
+ghost use Rattle.walrus_customs_laws.specs.Read.{ReadNamesAreLast};
 ghost use Rattle.walrus_customs_laws.specs.Sections.{CustomsAreSpelled, ReadCustomsAreSpelled};
 ghost use Rattle.walrus_customs_laws.specs.There.{NamesAreThere};
 
@@ -37,3 +38,11 @@ pub fn names_are_there()
 pub fn item_names_are_listed()
     ensures { ItemNamesAreListed }
 {}
+
+/// The names that a module has that was read, where synthetic ones aren't asked for, are the last that its file gives to its items, or none: of a type, to any that it
+/// stands for.
+pub fn read_names_are_last<B>()
+    ensures { ReadNamesAreLast B }
+{
+    names_are_there();
+}
