@@ -3,4 +3,5 @@ mod Sections
 mod Listed
 mod There
 mod Items
+mod Locals
 mod Read

@@ -2,4 +2,5 @@ pub mod Sections
 pub mod Payloads
 pub mod There
 pub mod Items
+pub mod Locals
 pub mod Read

@@ -1,6 +1,7 @@
 //! Laws: functions with nothing to do, whose contracts hold of all that is due.
 
 ghost use Rattle.walrus_customs_laws.specs.Items.{ItemNamesAreListed};
+ghost use Rattle.walrus_customs_laws.specs.Locals.{LocalNamesAreListed, UsedNamesAreListed};
 ghost use Rattle.walrus_customs_laws.specs.Payloads.{NamesAreSpelled, ProducersAreSpelled};
 ghost use Rattle.walrus_customs_laws.specs.Read.{ReadNamesAreLast};
 ghost use Rattle.walrus_customs_laws.specs.Sections.{CustomsAreSpelled, ReadCustomsAreSpelled};
@@ -46,3 +47,13 @@ pub fn read_names_are_last<B>()
 {
     names_are_there();
 }
+
+/// The names of locals that are written of a body are those of the locals that it names, by their places among the locals of its function.
+pub fn used_names_are_listed()
+    ensures { UsedNamesAreListed }
+{}
+
+/// The names of locals that are written of all bodies stand by the numbers of their functions, as these are listed.
+pub fn local_names_are_listed()
+    ensures { LocalNamesAreListed }
+{}
