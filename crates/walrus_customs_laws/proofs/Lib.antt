@@ -4,4 +4,5 @@ mod Listed
 mod There
 mod Items
 mod Locals
+mod Numbering
 mod Read

@@ -1,7 +1,7 @@
 //! Laws: functions with nothing to do, whose contracts hold of all that is due.
 
 ghost use Rattle.walrus_customs_laws.specs.Items.{ItemNamesAreListed};
-ghost use Rattle.walrus_customs_laws.specs.Locals.{LocalNamesAreListed, UsedNamesAreListed};
+ghost use Rattle.walrus_customs_laws.specs.Locals.{LocalNamesAreListed, LocalsAreNumbered, UsedNamesAreListed};
 ghost use Rattle.walrus_customs_laws.specs.Payloads.{NamesAreSpelled, ProducersAreSpelled};
 ghost use Rattle.walrus_customs_laws.specs.Read.{ReadNamesAreLast};
 ghost use Rattle.walrus_customs_laws.specs.Sections.{CustomsAreSpelled, ReadCustomsAreSpelled};
@@ -56,4 +56,9 @@ pub fn used_names_are_listed()
 /// The names of locals that are written of all bodies stand by the numbers of their functions, as these are listed.
 pub fn local_names_are_listed()
     ensures { LocalNamesAreListed }
+{}
+
+/// Once bodies are written, the numbers of the locals of each function are their places: its arguments, and then those that it declares.
+pub fn locals_are_numbered()
+    ensures { LocalsAreNumbered }
 {}
