@@ -5,3 +5,4 @@ mod Lists
 mod Places
 mod Read
 mod Spelled
+mod Written

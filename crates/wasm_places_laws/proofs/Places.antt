@@ -12,6 +12,7 @@ use Rattle.wasm_body_grammar.specs.Rules.{Around}
 use Rattle.wasm_grammar_bytes.specs.Bodies.{runs_bytes}
 use Rattle.wasm_grammar_bytes.specs.Maximal.{maximal_of}
 use Rattle.wasm_part.specs.Part.{Plan, part, picked, renumbered_body, renumbered_function, renumbered_own, renumbered_placed}
+use Rattle.wasm_part.proofs.Picked.{picked_at}
 use Rattle.wasm_rewritten.specs.Places.{HasOperator, IsTruePair}
 use Rattle.wasm_places_laws.specs.Begun.{behind_origin, behind_size, behind_slot, body_begun, first_body, first_operator, functions_begun, module_begun, origin_begun, slot_begun}
 use Rattle.wasm_places_laws.specs.Pairs.{functions_pairs, module_pairs, origin_pairs, slot_pairs}
@@ -184,11 +185,6 @@ picked_back f [] xs g y e = absurd cc
 picked_back f (n ∷ ns) xs zero y e = (n, refl, mapped_back f (slice_index_or xs n None) y e)
 picked_back f (n ∷ ns) xs (suc g) y e = picked_back f ns xs g y e
 
-picked_at : {A : Type 0} (f : A → A) (ns : List ℕ) (xs : List (Option A)) (g n : ℕ) → slice_get ns g ≡ Some n → slice_index_or (picked f ns xs) g None ≡ option_map f (slice_index_or xs n None)
-picked_at f [] xs g n e = absurd cc
-picked_at f (m ∷ ns) xs zero n e = ap (λ (k : ℕ). option_map f (slice_index_or xs k None)) (some_is m n e)
-picked_at f (m ∷ ns) xs (suc g) n e = picked_at f ns xs g n e
-
 own_back : (r : Renaming) (brings : ℕ → ℕ) (o : Origin Body) (y : Body) → renumbered_own r brings (renumbered_body r) o ≡ Own y → (x : Body) × (o ≡ Own x) × (renumbered_body r x ≡ y)
 own_back r brings (Imported n) y e = absurd cc
 own_back r brings (Own x) y e = (x, refl, own_is (renumbered_body r x) y e)
@@ -213,7 +209,7 @@ module _ (m : Module) (p : Plan) where
   goes_to : (g n i : ℕ) (s : Placed) → slice_get (p.listed Functions) g ≡ Some n → HasOperator m n i s → OperatorAt fs g i (renumbered_placed p.renames s)
   goes_to g n i s e h = record {
     function = renumbered_function p.renames p.brings h.function;
-    there = picked_at (renumbered_function p.renames p.brings) (p.listed Functions) m.functions g n e ∙ ap (option_map (renumbered_function p.renames p.brings)) h.there;
+    there = picked_at (renumbered_function p.renames p.brings) m.functions (p.listed Functions) g n e ∙ ap (option_map (renumbered_function p.renames p.brings)) h.there;
     body = renumbered_body p.renames h.body;
     own = ap (renumbered_own p.renames p.brings (renumbered_body p.renames)) h.own;
     at = map_at (renumbered_placed p.renames) h.body.operators i s h.at;

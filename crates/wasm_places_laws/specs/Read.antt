@@ -12,6 +12,7 @@ use Rattle.wasm_canonical.specs.Dense.{IsDense}
 use Rattle.wasm_canonical.specs.Due.{counts_data}
 use Rattle.wasm_canonical.specs.Spelled.{DueFits, file_due}
 use Rattle.wasm_places_laws.specs.Begun.{module_begun}
+use Rattle.wasm_places_laws.specs.Places.{around_written}
 
 abbrev pub DueAreReadAtPlaces : Type 0
 DueAreReadAtPlaces = (features : WasmFeatures) (counted : Bool) (first last : List Custom) (m : Module) → IsDense m → IsRuled features counted m → m.customs ≡ map (λ (c : Custom). Some c) (first ++ last)
@@ -20,7 +21,7 @@ DueAreReadAtPlaces = (features : WasmFeatures) (counted : Bool) (first last : Li
 
 -- as it is without the places that it had
 abbrev pub begun_in : WasmFeatures → Module → Module
-begun_in features n = module_begun (around_bodies features (counts_data (without_places n)) (without_places n)) (without_places n)
+begun_in features n = module_begun (around_written features n) (without_places n)
 
 abbrev pub CanonicalAreReadAtPlaces : Type 0
 CanonicalAreReadAtPlaces = (features : WasmFeatures) (n : Module) → IsDense n → IsRuled features (counts_data n) n → CustomsInOrder n → ItemsAreSpelled features n → IsShort (canonical_bytes features n)

@@ -1,7 +1,7 @@
 //! Laws: functions with nothing to do, whose contracts hold of all modules.
 
 ghost use Rattle.wasm_places_laws.specs.Bodies.{BodyPairsAreTrue};
-ghost use Rattle.wasm_places_laws.specs.Places.{PartPairsArePlaces};
+ghost use Rattle.wasm_places_laws.specs.Places.{PartPairsArePlaces, WrittenPairsArePlaces};
 ghost use Rattle.wasm_places_laws.specs.Read.{CanonicalAreReadAtPlaces, DueAreReadAtPlaces};
 
 /// The pairs of operators one behind another are true, rise, and are whole (Core Specification, binary format: expressions).
@@ -32,4 +32,13 @@ pub fn canonical_are_read_at_places()
     due_are_read_at_places();
     wasm_canonical::laws::spelled_items_fit();
     wasm_canonical::laws::places_are_not_ruled();
+}
+
+/// The pairs of the bodies of a part that is written in canonical bytes are the pairs of places of what these read as.
+pub fn written_pairs_are_places()
+    ensures { WrittenPairsArePlaces }
+{
+    canonical_are_read_at_places();
+    wasm_modules::laws::reads_once();
+    part_pairs_are_places();
 }

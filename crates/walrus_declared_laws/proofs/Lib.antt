@@ -1,0 +1,3 @@
+mod Added
+mod Retyped
+mod Agreed
