@@ -6,3 +6,5 @@ mod Items
 mod Locals
 mod Numbering
 mod Read
+mod Bound
+mod ReadLocals

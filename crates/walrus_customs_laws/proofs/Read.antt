@@ -62,7 +62,7 @@ upto_at (suc k) n lt = elim (cases_lt n k) as (λ _. slice_get (upto (suc k)) n 
   | inr more ↦ let many = count_upto k in let same : k ≡ n = omega (arith, lt, more) in get_last (upto k) k n (omega (arith, same, many)) ∙ ap (λ (i : ℕ). Some i) same
 ]
 
-some_of : {A : Type 0} (xs : List A) (n : ℕ) → n < length xs → (x : A) × (slice_get xs n ≡ Some x)
+pub some_of : {A : Type 0} (xs : List A) (n : ℕ) → n < length xs → (x : A) × (slice_get xs n ≡ Some x)
 some_of [] n lt = absurd (omega (arith, lt))
 some_of (x ∷ xs) zero lt = (x, refl)
 some_of (x ∷ xs) (suc n) lt = some_of xs n (omega (arith, lt))

@@ -4,3 +4,4 @@ pub mod There
 pub mod Items
 pub mod Locals
 pub mod Read
+pub mod ReadLocals

@@ -4,6 +4,7 @@ ghost use Rattle.walrus_customs_laws.specs.Items.{ItemNamesAreListed};
 ghost use Rattle.walrus_customs_laws.specs.Locals.{LocalNamesAreListed, LocalsAreNumbered, UsedNamesAreListed};
 ghost use Rattle.walrus_customs_laws.specs.Payloads.{NamesAreSpelled, ProducersAreSpelled};
 ghost use Rattle.walrus_customs_laws.specs.Read.{ReadNamesAreLast};
+ghost use Rattle.walrus_customs_laws.specs.ReadLocals.{ReadLocalNamesAreLast};
 ghost use Rattle.walrus_customs_laws.specs.Sections.{CustomsAreSpelled, ReadCustomsAreSpelled};
 ghost use Rattle.walrus_customs_laws.specs.There.{NamesAreThere};
 
@@ -62,3 +63,11 @@ pub fn local_names_are_listed()
 pub fn locals_are_numbered()
     ensures { LocalsAreNumbered }
 {}
+
+/// The names that the locals of a body have that was read, by their places, are the last that its file gives to those that the body's normal form names: where synthetic
+/// names aren't asked for, and the number that stands for no local is no local's.
+pub fn read_local_names_are_last<B>()
+    ensures { ReadLocalNamesAreLast B }
+{
+    names_are_there();
+}
