@@ -8,3 +8,4 @@ mod Numbering
 mod Read
 mod Bound
 mod ReadLocals
+mod Kept

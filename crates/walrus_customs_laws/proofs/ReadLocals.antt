@@ -62,7 +62,7 @@ use Rattle.walrus_customs_laws.proofs.Read.{Steps, all_steps, names_are, sends, 
 
 -- ---- lists
 
-some_one : {A : Type 0} (x y : A) → (let some : A → Option A = λ z. Some z in some x ≡ some y) → x ≡ y
+pub some_one : {A : Type 0} (x y : A) → (let some : A → Option A = λ z. Some z in some x ≡ some y) → x ≡ y
 some_one x y e = cc
 
 inside : {A : Type 0} (xs : List A) (n : ℕ) (x : A) → slice_get xs n ≡ Some x → n < length xs
@@ -80,12 +80,12 @@ slot_of [] n x e = absurd cc
 slot_of (o ∷ xs) zero x e = some_one o (Some x) e
 slot_of (o ∷ xs) (suc n) x e = slot_of xs n x e
 
-seen_slot : {A B : Type 0} (see : A → B) (xs : List (Option A)) (n : ℕ) → slice_index_or (map (option_map see) xs) n None ≡ option_map see (slice_index_or xs n None)
+pub seen_slot : {A B : Type 0} (see : A → B) (xs : List (Option A)) (n : ℕ) → slice_index_or (map (option_map see) xs) n None ≡ option_map see (slice_index_or xs n None)
 seen_slot see [] n = refl
 seen_slot see (x ∷ xs) zero = refl
 seen_slot see (x ∷ xs) (suc n) = seen_slot see xs n
 
-from_slot : (F : ℕ → grammar.Function → grammar.Function) (k : ℕ) (xs : List (Option grammar.Function)) (n : ℕ) → slice_index_or (each_from F k xs) n None ≡ option_map (F (k + n)) (slice_index_or xs n None)
+pub from_slot : (F : ℕ → grammar.Function → grammar.Function) (k : ℕ) (xs : List (Option grammar.Function)) (n : ℕ) → slice_index_or (each_from F k xs) n None ≡ option_map (F (k + n)) (slice_index_or xs n None)
 from_slot F k [] n = refl
 from_slot F k (x ∷ xs) zero = ap (λ (i : ℕ). option_map (F i) x) (omega arith)
 from_slot F k (x ∷ xs) (suc n) = from_slot F (suc k) xs n ∙ ap (λ (i : ℕ). option_map (F i) (slice_index_or xs n None)) (omega arith)

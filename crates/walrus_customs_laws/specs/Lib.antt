@@ -5,3 +5,4 @@ pub mod Items
 pub mod Locals
 pub mod Read
 pub mod ReadLocals
+pub mod Kept

@@ -1,6 +1,7 @@
 //! Laws: functions with nothing to do, whose contracts hold of all that is due.
 
 ghost use Rattle.walrus_customs_laws.specs.Items.{ItemNamesAreListed};
+ghost use Rattle.walrus_customs_laws.specs.Kept.{NamesAreKept};
 ghost use Rattle.walrus_customs_laws.specs.Locals.{LocalNamesAreListed, LocalsAreNumbered, UsedNamesAreListed};
 ghost use Rattle.walrus_customs_laws.specs.Payloads.{NamesAreSpelled, ProducersAreSpelled};
 ghost use Rattle.walrus_customs_laws.specs.Read.{ReadNamesAreLast};
@@ -70,4 +71,16 @@ pub fn read_local_names_are_last<B>()
     ensures { ReadLocalNamesAreLast B }
 {
     names_are_there();
+}
+
+/// The names that are written of what is kept of a module that was read are those that its file gives last to what a plan lists, by their places there: of locals those
+/// that normal forms name.
+pub fn names_are_kept<B>()
+    ensures { NamesAreKept B }
+{
+    item_names_are_listed();
+    used_names_are_listed();
+    local_names_are_listed();
+    read_names_are_last::<B>();
+    read_local_names_are_last::<B>();
 }
