@@ -1,7 +1,7 @@
 -- Lemmas: emission's numbers serve for code.
 use Rattle.std.specs.Prelude.{ℕ, zero, suc, ◌+◌, ◌<◌, ◌≡◌, ◌==◌, Bool, true, false, is_some, List, [], ◌∷◌, length, map, fold, Option, Some, None, slice_get, slice_index, slice_index_or, if◌then◌else◌, refl}
 use Rattle.std.specs.List.{AllByRecursion, AllZip, cons_option}
-use Rattle.std.proofs.Common.{ap, sym, ◌∙◌, subst, arith}
+use Rattle.std.proofs.Common.{ap, sym, ◌∙◌, subst, arith, inl, inr}
 use Rattle.std.proofs.lemmas.Bool.{eqb-true}
 use Rattle.std.proofs.lemmas.List.Elements.{All-head, All-tail}
 use Rattle.std.proofs.lemmas.Option.{none-some, same_Some}
@@ -15,6 +15,7 @@ use Rattle.walrus_module.specs.declared.module.Module.{Module}
 use Rattle.walrus_module.specs.walrus_collections.LookUps.{items as items_in, local_entries}
 use Rattle.walrus_builder.specs.Functions.{seqs_of}
 use Rattle.walrus_tree.specs.Text.{operators}
+use Rattle.walrus_tree.specs.Trees.{AreDistinct, Has}
 use Rattle.walrus_body_names.specs.Names.{AreSet, local_in, text_names}
 use Rattle.walrus_local_function.specs.declared.local_function.LocalFunction.{LocalFunction}
 use Rattle.walrus_local_numbers.specs.Laws.{IsOnce}
@@ -33,6 +34,8 @@ use Rattle.walrus_module_items.specs.declared.table.Table.{Table}
 use Rattle.walrus_module_items.specs.declared.tag.Tag.{Tag}
 use Rattle.walrus_module_items.specs.declared.tag.TagKind.{TagKind}
 use Rattle.walrus_module_items.specs.declared.tag.TagKind.TheVariants as tags
+use Rattle.walrus_linked.specs.Linked.{IsWhole}
+use Rattle.walrus_types.specs.Table.{Table as TypeTable}
 use Rattle.walrus_emit_numbers.specs.declared.facts.BodyFacts.{BodyFacts}
 use Rattle.walrus_emit_numbers.specs.Facts.{AreFacts}
 use Rattle.walrus_emit_numbers.specs.Numbers.{brought, data_from, element_numbered, function_in_turn, functions_at, import_in_turn, memory_in_turn, numbers_of, own_global, own_memory, own_table, own_tag, table_in_turn, type_in_turn}
@@ -40,7 +43,7 @@ use Rattle.walrus_emit_numbers.specs.Order.{AreWithin}
 use Rattle.walrus_emit_code.specs.Code.{facts_at}
 use Rattle.walrus_due_laws.specs.Spelled.{Follows}
 use Rattle.walrus_code_laws.specs.Code.{KnowsBody}
-use Rattle.walrus_code_laws.specs.Emissions.{EmissionsServeCode}
+use Rattle.walrus_code_laws.specs.Emissions.{EmissionsServeCode, LinkedArgumentsAreOnce}
 use Rattle.walrus_code_laws.specs.Spelled.{IsOneToOne, items_of}
 
 -- ---- numbers in turn
@@ -198,6 +201,30 @@ module _ (funcs : Arena Function) where
     knows_all [] (f ∷ facts) there are = absurd are
     knows_all (e ∷ es) [] there are = absurd are
     knows_all (e ∷ es) (f ∷ facts) there are = (knows_one e f there.0 are.0, knows_all es facts there.1 are.1)
+
+-- ---- arguments of linked modules
+
+has_at : (ids : List ℕ) (i id : ℕ) → slice_get ids i ≡ Some id → Has ids id
+has_at [] i id e = absurd (none-some id e)
+has_at (k ∷ ids) zero id e = inl (same_Some k id e)
+has_at (k ∷ ids) (suc i) id e = inr (has_at ids i id e)
+
+distinct_once : (ids : List ℕ) → AreDistinct ids → IsOnce ids
+distinct_once [] h i j id e f = absurd (none-some id e)
+distinct_once (k ∷ ids) h zero zero id e f = refl
+distinct_once (k ∷ ids) h zero (suc j) id e f = absurd (h.0 (has_at ids j k (f ∙ sym e)))
+distinct_once (k ∷ ids) h (suc i) zero id e f = absurd (h.0 (has_at ids i k (e ∙ sym f)))
+distinct_once (k ∷ ids) h (suc i) (suc j) id e f = ap (λ (n : ℕ). suc n) (distinct_once ids h.1 i j id e f)
+
+whole_once : (types : TypeTable) (kind : FunctionKind) (local : LocalFunction) → IsWhole types kind → local_of kind ≡ Some local → IsOnce local.args.items
+whole_once types (functions.Import imported) local h e = absurd (none-some local e)
+whole_once types (functions.Local x) local h e = subst (λ (l : LocalFunction). IsOnce l.args.items) (same_Some x local e) (distinct_once x.args.items h.0.distinct)
+whole_once types (functions.Uninitialized ty) local h e = absurd (none-some local e)
+
+pub arguments_once : LinkedArgumentsAreOnce
+arguments_once m linked id f local is has = whole_once m.types f.kind local (linked.whole id f is) has
+
+-- ---- facts in their order
 
 -- those at some positions
 known_at : (P : BodyFacts → Type 0) (facts : List BodyFacts) → AllByRecursion P facts → (order : List ℕ) → AllByRecursion P (facts_at facts order)

@@ -23,10 +23,10 @@ use Rattle.wasm_import_links.specs.Links.{ImportsLink, brought, function_brought
 use Rattle.wasm_sections.specs.Entities.{Entity, ImportEntry}
 use Rattle.wasm_sections.specs.Sections.{TypeSection, ImportSection, FunctionSection, TableSection, MemorySection, TagSection, GlobalSection, ExportSection, ElementSection, SectionEntry}
 use Rattle.wasm_section_bytes.specs.Flags.{entry_of_element}
-use Rattle.wasm_ruled_modules.specs.Rules.{table_wide}
+use Rattle.wasm_ruled_modules.specs.Rules.{table_wide, around_bodies}
 use Rattle.wasm_module_bytes.specs.Bytes.{origin_unplaced, slot_unplaced, unplaced, without_places}
 use Rattle.wasm_module_bytes.specs.Due.{export_from, group_from}
-use Rattle.wasm_canonical.specs.Due.{bodies_due, body_names_segment, code_if, count_if, counts_data, entity_due, function_due, import_due, is_passive, items_in, names_segment, origin_bytes, own_bytes, own_global, own_memory, own_table, own_tag, section_if, standard_due, start_if}
+use Rattle.wasm_canonical.specs.Due.{bodies_due, body_names_segment, code_if, count_if, counts_data, entity_due, function_due, import_due, is_passive, items_in, names_segment, origin_bytes, own_bytes, own_global, own_memory, own_table, own_tag, section_if, standard_due, start_if, custom_due}
 use Rattle.wasm_part.specs.Order.{InOrder, brought_by, brought_to, is_to}
 use Rattle.wasm_part.specs.Part.{Plan, part, picked, renumbered_function, renumbered_placed}
 use Rattle.wasm_ruled_renamed.specs.Bodies.{with_numbers}
@@ -45,13 +45,18 @@ use Rattle.walrus_emit_numbers.specs.declared.facts.BodyFacts.{BodyFacts}
 use Rattle.walrus_emit_parts.specs.Due.{Due}
 use Rattle.walrus_emit_due.specs.Items.{segments}
 use Rattle.walrus_emit_code.specs.Code.{code}
-use Rattle.walrus_due_laws.specs.Spelled.{SpelledAs, spelled}
-use Rattle.walrus_due_laws.specs.Standard.{PartsAreSpelled, StandardIsAround, before_code, behind_code, due_before, names_segments}
-use Rattle.walrus_due_laws.proofs.Parts.{turned}
+use Rattle.walrus_due_laws.specs.Spelled.{SpelledAs, spelled, FilesAreSpelled}
+use Rattle.walrus_due_laws.specs.Standard.{PartsAreSpelled, StandardIsAround, before_code, behind_code, due_before}
+use Rattle.walrus_due_laws.proofs.Parts.{turned, both}
 use Rattle.walrus_due_laws.proofs.Standard.{joined}
 use Rattle.walrus_code_laws.specs.Code.{CodeIsSpelled, meant_bytes}
 use Rattle.walrus_code_laws.specs.Numbered.{numbered_function, numbered_origin}
-use Rattle.walrus_code_laws.specs.Parts.{CodeIsApart, PartCodeIsSpelled, PartsAreWritten, ServesCode, numbered}
+use Rattle.walrus_code_laws.specs.Parts.{CodeIsApart, PartCodeIsSpelled, PartsAreWritten, ServesCode, numbered, AreTold, PartsAreCanonical, all_due}
+use Rattle.std.proofs.lemmas.List.{append_assoc}
+use Rattle.wasm_grammar.specs.States.{nothing_yet}
+use Rattle.wasm_sections.specs.Modules.{magic}
+use Rattle.wasm_section_bytes.specs.Files.{entry_bytes, file_bytes}
+use Rattle.wasm_canonical.specs.Canonical.{first_customs, last_customs}
 
 -- ---- slots
 
@@ -68,6 +73,14 @@ given_by {E} F (n ∷ front) back h = ap (λ (o : Option E). cons_option o (filt
 picked_by : {A E : Type 0} (own : Option A → Option E) (f : A → A) (xs : List (Option A)) (ns : List ℕ) → filter_map own (picked f ns xs) ≡ filter_map (λ (n : ℕ). own (option_map f (slice_index_or xs n None))) ns
 picked_by own f xs [] = refl
 picked_by {A} {E} own f xs (n ∷ ns) = ap (λ (l : List E). cons_option (own (option_map f (slice_index_or xs n None))) l) (picked_by own f xs ns)
+
+-- ---- sections that are joined
+
+spelled_join : (features : WasmFeatures) (xs ys : List SectionEntry) → spelled features (xs ++ ys) ≡ spelled features xs ++ spelled features ys
+spelled_join features [] ys = refl
+spelled_join features (x ∷ xs) ys =
+    let front = entry_bytes features nothing_yet x in
+    ap (λ (l : List ℕ). front ++ l) (spelled_join features xs ys) ∙ sym (append_assoc front (spelled features xs) (spelled features ys))
 
 -- ---- what imports bring
 
@@ -315,20 +328,34 @@ module _ (p : Plan) (m : Module) where
           ∙ ap (λ (l : List SectionEntry). l ++ (code_if (bodies_due a bare) ++ behind_code (part p old))) (standard.unplaced (part p new) ∙ around_same)
           ∙ ap (λ (bodies : List (List ℕ)). before_code (part p old) ++ (code_if bodies ++ behind_code (part p old))) (bare_bodies a (part p new).functions)
 
-      all_as : CodeIsSpelled → PartsAreSpelled → StandardIsAround → (types : Due) (named : Bool) → SpelledAs types (spelled features (section_if TypeSection (map group_from p.groups)))
-          → named ≡ names_segments (part p old)
-          → SpelledAs (due_before types (number_of i 0) old (serves.items.order.own Functions) named ++ (code locals m.funcs i facts ++ segments (number_of i 0) old.segments))
-          (spelled features (standard_due (bodies_due a bare) (counts_data bare) bare))
-      all_as spelling parts standard types named typed names =
-          let around = parts features (number_of i 0) p old serves.items types named typed names in
-          let front = due_before types (number_of i 0) old (serves.items.order.own Functions) named in
-          let due = code locals m.funcs i facts in
-          let back = segments (number_of i 0) old.segments in
-          let bodies = code_if (bodies_due a (part p new)) in
-          turned (front ++ (due ++ back)) (spelled features (before_code (part p old) ++ (bodies ++ behind_code (part p old)))) (spelled features (standard_due (bodies_due a bare) (counts_data bare) bare))
-          (ap (λ (l : List SectionEntry). spelled features l) (sym (all_same standard)))
-          (joined features front (due ++ back) (before_code (part p old)) (bodies ++ behind_code (part p old)) around.before
-          (joined features due back bodies (behind_code (part p old)) (code_as spelling) around.behind))
+      module _ (spelling : CodeIsSpelled) (parts : PartsAreSpelled) (standard : StandardIsAround) (types : Due) (named : Bool) (told : AreTold features p m types named) where
+        abbrev all : Due
+        all = all_due i m facts (serves.items.order.own Functions) types named
+
+        abbrev sections : List SectionEntry
+        sections = standard_due (bodies_due a bare) (counts_data bare) bare
+
+        all_as : SpelledAs all (spelled features sections)
+        all_as =
+            let around = parts features (number_of i 0) p old serves.items types named told.groups told.segments in
+            let front = due_before types (number_of i 0) old (serves.items.order.own Functions) named in
+            let due = code locals m.funcs i facts in
+            let back = segments (number_of i 0) old.segments in
+            let bodies = code_if (bodies_due a (part p new)) in
+            turned (front ++ (due ++ back)) (spelled features (before_code (part p old) ++ (bodies ++ behind_code (part p old)))) (spelled features sections)
+            (ap (λ (l : List SectionEntry). spelled features l) (sym (all_same standard)))
+            (joined features front (due ++ back) (before_code (part p old)) (bodies ++ behind_code (part p old)) around.before
+            (joined features due back bodies (behind_code (part p old)) (code_as spelling) around.behind))
+
+        -- with what stands in front and behind
+        whole_as : FilesAreSpelled → (before behind : List SectionEntry) (first last : Due) → SpelledAs first (magic ++ spelled features before) → SpelledAs last (spelled features behind)
+            → SpelledAs (first ++ (all ++ last)) (file_bytes features (tt, before ++ (sections ++ behind)))
+        whole_as files before behind first last f g =
+            let rest = sections ++ behind in
+            turned (first ++ (all ++ last)) ((magic ++ spelled features before) ++ spelled features rest) (file_bytes features (tt, before ++ rest))
+            (append_assoc magic (spelled features before) (spelled features rest)
+            ∙ ap (λ (l : List ℕ). magic ++ l) (sym (spelled_join features before rest)) ∙ sym (files features (before ++ rest)))
+            (both first (all ++ last) (magic ++ spelled features before) (spelled features rest) f (joined features all last sections behind all_as g))
 
 pub apart : CodeIsApart
 apart = record { around = around_same; segments = λ p m. any_same p m (p.listed Functions); unplaced = λ a n. bare_bodies a n.functions }
@@ -337,4 +364,11 @@ pub part_code_spelled : CodeIsSpelled → PartCodeIsSpelled
 part_code_spelled spelling features a i p m facts serves = code_as p m a features i facts serves spelling
 
 pub parts_written : CodeIsSpelled → PartsAreSpelled → StandardIsAround → PartsAreWritten
-parts_written spelling parts standard features a i p m facts serves types named typed names = all_as p m a features i facts serves spelling parts standard types named typed names
+parts_written spelling parts standard features a i p m facts serves types named told = all_as p m a features i facts serves spelling parts standard types named told
+
+pub parts_canonical : CodeIsSpelled → PartsAreSpelled → StandardIsAround → FilesAreSpelled → PartsAreCanonical
+parts_canonical spelling parts standard files features i p m facts serves types named told customs first last f g =
+    let n = record (part p (numbered m)) { customs = customs } in
+    let k = without_places n in
+    whole_as p m (around_bodies features (counts_data k) k) features i facts serves spelling parts standard types named told files (map custom_due (first_customs n)) (map custom_due (last_customs n)) first last
+    f g

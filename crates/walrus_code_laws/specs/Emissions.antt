@@ -12,6 +12,7 @@ use Rattle.walrus_local_function.specs.declared.local_function.LocalFunction.{Lo
 use Rattle.walrus_local_numbers.specs.Laws.{IsOnce}
 use Rattle.walrus_module_items.specs.Functions.{local_of}
 use Rattle.walrus_module_items.specs.declared.function.Function.{Function}
+use Rattle.walrus_linked.specs.Linked.{IsLinked}
 use Rattle.walrus_meaning.specs.Meaning.{means}
 use Rattle.walrus_emit_numbers.specs.declared.facts.BodyFacts.{BodyFacts}
 use Rattle.walrus_emit_numbers.specs.Facts.{AreFacts}
@@ -24,6 +25,10 @@ use Rattle.walrus_code_laws.specs.Parts.{ServesCode}
 -- no function has an argument twice
 abbrev pub ArgumentsAreOnce : Parts → Type 0
 ArgumentsAreOnce m = (id : ℕ) (f : Function) (local : LocalFunction) → item_at m.funcs id ≡ Some f → local_of f.kind ≡ Some local → IsOnce local.args.items
+
+-- so it is in a linked module
+abbrev pub LinkedArgumentsAreOnce : Type 0
+LinkedArgumentsAreOnce = (m : Parts) → IsLinked m → ArgumentsAreOnce m
 
 -- a module, the facts of its bodies and the order in which these are written, and which types are
 module _ {B : Type 0} (input : Module B) (facts : List BodyFacts) (order types : List ℕ) where

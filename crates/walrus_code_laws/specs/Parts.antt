@@ -1,14 +1,16 @@
 -- What is due for bodies by a plan's numbers is the code section of the plan's part, in which the locals of each body are numbered.
-use Rattle.std.specs.Prelude.{◌≡◌, Bool, List, ◌++◌, map}
+use Rattle.std.specs.Prelude.{ℕ, ◌≡◌, Bool, List, ◌++◌, map, Option}
 use Rattle.std.specs.List.{AllByRecursion}
 use Rattle.wasm_features.specs.declared.WasmFeatures.{WasmFeatures}
 use Rattle.wasm_operators.specs.Items.{Functions}
 use Rattle.wasm_grammar.specs.Modules as grammar
 use Rattle.wasm_body_grammar.specs.Rules.{Around}
+use Rattle.wasm_sections.specs.Modules.{magic}
 use Rattle.wasm_sections.specs.Sections.{TypeSection}
 use Rattle.wasm_module_bytes.specs.Bytes.{without_places}
 use Rattle.wasm_module_bytes.specs.Due.{group_from}
-use Rattle.wasm_canonical.specs.Due.{bodies_due, code_if, counts_data, section_if, standard_due}
+use Rattle.wasm_canonical.specs.Canonical.{canonical_bytes, first_customs, last_customs}
+use Rattle.wasm_canonical.specs.Due.{bodies_due, code_if, counts_data, custom_due, section_if, standard_due}
 use Rattle.wasm_part.specs.Part.{Plan, part}
 use Rattle.walrus_index_maps.specs.Maps.{Indices}
 use Rattle.walrus_pairing.specs.Looks.{number_of}
@@ -50,10 +52,29 @@ abbrev pub PartCodeIsSpelled : Type 0
 PartCodeIsSpelled = (features : WasmFeatures) (a : Around) (i : Indices) (p : Plan) (m : Module) (facts : List BodyFacts) → ServesCode i p m facts
     → SpelledAs (code m.locals m.funcs i facts) (spelled features (code_if (bodies_due a (part p (numbered m)))))
 
--- and so are all standard sections, with this for the types, and whether a body names a data segment
+-- ---- all of it
+
+-- what is due for the standard sections, with this for the types, these functions with bodies, and whether a body names a data segment
+abbrev pub all_due : Indices → Module → List BodyFacts → List ℕ → Due → Bool → Due
+all_due i m facts functions types named =
+    let look = number_of i 0 in due_before types look (means m) functions named ++ (code m.locals m.funcs i facts ++ segments look (means m).segments)
+
+-- the types are those of the plan, and the bodies name data segments where this says so
+pub record AreTold (features : WasmFeatures) (p : Plan) (m : Module) (types : Due) (named : Bool) : Type 0 where
+  pub groups : SpelledAs types (spelled features (section_if TypeSection (map group_from p.groups)))
+  pub segments : named ≡ names_segments (part p (means m))
+
+-- then they are those of the part, places aside
 abbrev pub PartsAreWritten : Type 0
 PartsAreWritten = (features : WasmFeatures) (a : Around) (i : Indices) (p : Plan) (m : Module) (facts : List BodyFacts) (serves : ServesCode i p m facts) (types : Due) (named : Bool)
-    → SpelledAs types (spelled features (section_if TypeSection (map group_from p.groups))) → named ≡ names_segments (part p (means m))
-    → (let look = number_of i 0 in let n = without_places (part p (numbered m)) in
-    SpelledAs (due_before types look (means m) (serves.items.order.own Functions) named ++ (code m.locals m.funcs i facts ++ segments look (means m).segments))
-    (spelled features (standard_due (bodies_due a n) (counts_data n) n)))
+    → AreTold features p m types named
+    → (let n = without_places (part p (numbered m)) in
+    SpelledAs (all_due i m facts (serves.items.order.own Functions) types named) (spelled features (standard_due (bodies_due a n) (counts_data n) n)))
+
+-- and between its custom sections they are its canonical bytes
+abbrev pub PartsAreCanonical : Type 0
+PartsAreCanonical = (features : WasmFeatures) (i : Indices) (p : Plan) (m : Module) (facts : List BodyFacts) (serves : ServesCode i p m facts) (types : Due) (named : Bool)
+    → AreTold features p m types named → (customs : List (Option grammar.Custom)) (first last : Due)
+    → (let n = record (part p (numbered m)) { customs = customs } in
+    SpelledAs first (magic ++ spelled features (map custom_due (first_customs n))) → SpelledAs last (spelled features (map custom_due (last_customs n)))
+    → SpelledAs (first ++ (all_due i m facts (serves.items.order.own Functions) types named ++ last)) (canonical_bytes features n))

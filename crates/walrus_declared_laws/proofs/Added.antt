@@ -33,7 +33,7 @@ brings_none : (o : Option Import) → brought_to ElementSegments o ≡ None
 brings_none None = refl
 brings_none (Some x) = refl
 
-none_brought : (m : Module) (ns : List ℕ) → brought_by m ElementSegments ns ≡ []
+pub none_brought : (m : Module) (ns : List ℕ) → brought_by m ElementSegments ns ≡ []
 none_brought m [] = refl
 none_brought m (n ∷ ns) =
     ap (λ (o : Option ℕ). cons_option o (brought_by m ElementSegments ns)) (brings_none (slice_index_or m.imports n None)) ∙ none_brought m ns

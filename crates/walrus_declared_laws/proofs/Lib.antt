@@ -1,3 +1,6 @@
 mod Added
 mod Retyped
 mod Agreed
+mod Emitted
+mod Wanted
+mod Marks

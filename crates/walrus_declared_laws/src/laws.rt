@@ -2,7 +2,10 @@
 
 ghost use Rattle.walrus_declared_laws.specs.Added.{LastSegmentsAreAdded};
 ghost use Rattle.walrus_declared_laws.specs.Agreed.{AgreeingModulesAreOrdered};
+ghost use Rattle.walrus_declared_laws.specs.Declared.{UndeclaredAreDeclared};
+ghost use Rattle.walrus_declared_laws.specs.Emitted.{EmissionsDeclare};
 ghost use Rattle.walrus_declared_laws.specs.Retyped.{RetypedPartsAreSame};
+ghost use Rattle.walrus_declared_laws.specs.Wanted.{WantsAreTold};
 
 use wasm_operators::laws::renamings_compose;
 
@@ -21,4 +24,22 @@ pub fn retyped_parts_are_same()
     ensures { RetypedPartsAreSame }
 {
     renamings_compose();
+}
+
+/// What is written of a module with the segment that was added for it is the part of the module without it, by a plan that adds the segment, in the same order.
+pub fn emissions_declare()
+    ensures { EmissionsDeclare }
+{}
+
+/// By a plan that lists all that is there, the functions that are wanted are those to which bodies and globals refer, and those that are held those of exports and
+/// segments.
+pub fn wants_are_told()
+    ensures { WantsAreTold }
+{}
+
+/// The functions for which a module is given a segment, by what is known of its bodies, are those that bodies and globals refer to and that nothing holds.
+pub fn undeclared_are_declared<B>()
+    ensures { UndeclaredAreDeclared B }
+{
+    wants_are_told();
 }

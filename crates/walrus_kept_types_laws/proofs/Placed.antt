@@ -1,7 +1,7 @@
 -- Lemmas: a table by places is written as the table is, each type at the same index, where types name those that keep their numbers.
-use Rattle.std.proofs.Common.{◌≡◌, ◌∙◌, inl, inr, ℕ, zero, suc, ◌+◌, Bool, true, List, [], ◌∷◌, ◌++◌, length, map, filter, Contains, Option, Some, None, is_some, IsSome, unwrap_or, if◌then◌else◌, refl, sym, ap, subst, arith}
+use Rattle.std.proofs.Common.{◌≡◌, ◌∙◌, inl, inr, ℕ, suc, ◌+◌, true, List, [], ◌∷◌, ◌++◌, length, map, filter, Option, Some, None, is_some, unwrap_or, if◌then◌else◌, refl, sym, ap, subst}
 use Rattle.std.specs.Prelude.{slice_index_or, nat_lt}
-use Rattle.std.specs.List.{slice_get, list_any, filter_map, cons_option, flat_map}
+use Rattle.std.specs.List.{slice_get, filter_map, cons_option, flat_map}
 use Rattle.std.specs.Option.{option_and_then, option_map_or, option_or}
 use Rattle.std.proofs.lemmas.List.{length-map, map-append}
 use Rattle.walrus_arena.specs.Arena.{entries_from}
@@ -16,10 +16,10 @@ use Rattle.walrus_types.specs.declared.error.IrError.TheVariants.{Dead, EntryOnl
 use Rattle.walrus_types.specs.Items.{Item, Group}
 use Rattle.walrus_types.specs.Table.{Table, type_at}
 use Rattle.walrus_types.specs.Emission.{shown_kind, written_kind, is_written, written_groups, loose_kind, single_kind, key_of, index_at, no_group, AreInOrder, AreIndices, written_in, written_types, fault_at, first_fault, group_names, groups_fault, described_group, AreArranged, IsEmission}
-use Rattle.walrus_types.proofs.OnceLemmas.{is_shown, some_is, written_place}
+use Rattle.walrus_types.proofs.OnceLemmas.{is_shown, written_place}
 use Rattle.walrus_types.proofs.Places.{Has, Once, at_map, contains_has, has_contains, map_at, maps_agree, maps_twice, seat}
 use Rattle.walrus_type_laws.specs.Alike.{AreHomed, renamed_group}
-use Rattle.walrus_type_laws.proofs.Written.{AllWritten, Indexed, filter_all, home_written, indexed, types_of, written_all}
+use Rattle.walrus_type_laws.proofs.Written.{AllWritten, filter_all, home_written, indexed, types_of, written_all}
 use Rattle.walrus_kept_types_laws.specs.Placed.{place_among, placed_indices, placed_table}
 use Rattle.walrus_kept_types_laws.proofs.Lists.{any_mapped, at_found, filter_mapped, found_at, found_mapped, get_mapped, has_place, in_split, place_at}
 

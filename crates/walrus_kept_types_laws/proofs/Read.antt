@@ -1,43 +1,41 @@
 -- Lemmas: the types of a module that was read: those of its file under the ids 0, 1 and on, and those of handlers, each of which names types of the file alone.
-use Rattle.std.specs.Prelude.{ℕ, zero, suc, ◌≡◌, ◌≤◌, ◌<◌, ◌+◌, ◌&&◌, Bool, true, false, not, List, [], ◌∷◌, ◌++◌, Contains, filter, length, map, Option, Some, None, is_some, slice_get, refl, if◌then◌else◌}
+use Rattle.std.specs.Prelude.{ℕ, zero, suc, ◌≡◌, ◌≤◌, ◌<◌, ◌+◌, ◌&&◌, ◌⊎◌, Bool, true, false, not, List, [], ◌∷◌, ◌++◌, Contains, filter, length, map, Option, Some, None, is_some, slice_get, refl, if◌then◌else◌}
 use Rattle.std.specs.List.{AllByRecursion, flat_map}
 use Rattle.std.proofs.Common.{inl, inr, ap, sym, subst, ◌∙◌, arith, append-nil}
-use Rattle.std.proofs.lemmas.Bool.{cases_Bool, cases_eq, cases_lt}
+use Rattle.std.proofs.lemmas.Bool.{cases_Bool, cases_lt}
 use Rattle.std.proofs.lemmas.List.{length-append}
-use Rattle.std.proofs.lemmas.Option.{none-some, same_Some}
+use Rattle.std.proofs.lemmas.Option.{none-some, same_Some, slice_get_within}
 use Rattle.walrus_forms.specs.Kinds.{Kind, kind_names}
 use Rattle.walrus_forms.specs.Records.{TypeGroup}
-use Rattle.walrus_forms.specs.Renaming.{KindBelow, at}
+use Rattle.walrus_forms.specs.Renaming.{at, renamed_kind}
 use Rattle.walrus_forms.specs.Same.{same_kind}
 use Rattle.walrus_forms.proofs.RenamingLemmas.{In, kinds-below}
 use Rattle.walrus_types.specs.Emission.{is_written, written_groups, written_kind}
-use Rattle.walrus_types.specs.Items.{Group}
-use Rattle.walrus_types.specs.Table.{Table, group_at}
-use Rattle.walrus_types.specs.TypeLaws.{AreGrouped}
-use Rattle.walrus_types.proofs.OnceLemmas.{is_shown, place_written}
-use Rattle.walrus_types.proofs.Places.{Has, contains_has, has_contains, left_at}
+use Rattle.walrus_types.specs.Mergers.{ParsingCarriesSame}
+use Rattle.walrus_types.specs.Table.{Table}
+use Rattle.walrus_types.proofs.Places.{contains_has, has_contains, left_at}
 use Rattle.walrus_type_laws.specs.Alike.{AreHomed, members}
 use Rattle.walrus_type_laws.proofs.Steady.{edited_homed}
-use Rattle.walrus_type_laws.proofs.Written.{home_written, types_of}
-use Rattle.walrus_config.specs.declared.config.ModuleConfig.{ModuleConfig}
-use Rattle.walrus_index_maps.specs.Maps.{Ids}
-use Rattle.walrus_meaning.specs.Meaning.{group_kinds, has_kinds, own_groups, type_ids}
-use Rattle.walrus_module.specs.declared.module.Module.{Module as Whole}
+use Rattle.walrus_meaning.specs.Meaning.{has_kinds, own_groups, type_ids}
 use Rattle.walrus_named_bodies.specs.Parsed.{read_features}
 use Rattle.walrus_sections_into.specs.Numbers.{upto}
 use Rattle.walrus_parse_laws.specs.FilledGroups as filled
 use Rattle.walrus_parse_laws.specs.Meant.{place_of as place_meant}
-use Rattle.walrus_parse_laws.specs.Means.{MeansFile, handler_kinds}
+use Rattle.walrus_parse_laws.specs.Means.{handler_kinds}
 use Rattle.wasm_features.specs.declared.WasmFeatures.{WasmFeatures}
-use Rattle.wasm_grammar.specs.Modules.{Module}
+use Rattle.wasm_grammar.specs.Modules.{Body, Function, Module}
+use Rattle.wasm_grammar.specs.States.{form_test}
 use Rattle.wasm_merged_modules.specs.Merged as merged
-use Rattle.wasm_merged_modules.specs.Merged.{IsMissing, NoneStandBehind, TypesAreMerged, ids_of, is_filled, kept_of, kinds_of}
-use Rattle.wasm_part.specs.Handlers.{HandlersAreMissing, lacking}
+use Rattle.wasm_merged_modules.specs.Merged.{IsMissing, NoneStandBehind, TypesAreMerged, ids_of, is_filled, kept_of, kinds_of, merged_types}
+use Rattle.wasm_merged_modules.proofs.Merged.{kind_there, many}
+use Rattle.wasm_module_rules.specs.Linked.{Each}
+use Rattle.wasm_normal_modules.proofs.Slots.{get_some}
+use Rattle.wasm_part.specs.Handlers.{HandlersAreMissing, bodies_handle, bodies_of, function_bodies, handler_groups, is_missing, kind_of, lacking, sent}
 use Rattle.wasm_ruled_modules.specs.Rules.{AreBelow, GroupsBelow}
-use Rattle.walrus_kept_types_laws.specs.Read.{AreReadOf, ReadTypesAreRead, ReadTypesAreSettled}
+use Rattle.walrus_kept_types_laws.specs.Read.{ReadTypesAreRead, ReadTypesAreSettled}
 use Rattle.walrus_kept_types_laws.proofs.Handlers.{handlers_lacking, kinds_lacking}
 use Rattle.walrus_kept_types_laws.proofs.Lists.{failed, flat_append, has_in, passed}
-use Rattle.walrus_kept_types_laws.proofs.Meant.{groups_kind, own_are}
+use Rattle.walrus_kept_types_laws.proofs.Meant.{groups_kind, groups_many, own_are}
 
 -- ---- lists
 
@@ -117,9 +115,55 @@ singles : (kinds : List Kind) → kinds_of (map merged.single kinds) ≡ kinds
 singles [] = refl
 singles (k ∷ kinds) = ap (λ (l : List Kind). k ∷ l) (singles kinds)
 
+-- ---- a file without types has no functions, so that handlers lack none
+
+past : (xs : List ℕ) (n : ℕ) → length xs ≤ n → at xs n ≡ 0
+past [] n le = refl
+past (x ∷ xs) zero le = absurd (omega (arith, le))
+past (x ∷ xs) (suc n) le = past xs n (omega (arith, le))
+
+no_body : (types : List Kind) → types ≡ [] → (fs : List (Option Function)) → Each (λ (f : Function). form_test (slice_get types f.ty) ≡ None) fs → flat_map function_bodies fs ≡ []
+no_body types none [] all = refl
+no_body types none (None ∷ fs) all = no_body types none fs all
+no_body types none (Some f ∷ fs) all = absurd (let wrong : form_test None ≡ None = ap (λ (l : List Kind). form_test (slice_get l f.ty)) (sym none) ∙ all.0 in none-some _ (sym wrong))
+
+none_lacking : (file : Module) → bodies_of file ≡ [] → handler_groups file ≡ []
+none_lacking file none =
+    ap (λ (xs : List Body). map merged.single (merged.once (map kind_of (filter (is_missing (merged_types file.groups).table) (map (sent (at (ids_of file.groups))) (bodies_handle file xs)))))) none
+
+empty : {A : Type 0} (xs : List A) → length xs ≡ 0 → xs ≡ []
+empty [] e = refl
+empty (x ∷ xs) e = absurd (omega (arith, e))
+
+module _ (carries : ParsingCarriesSame) (file : Module) (below : GroupsBelow 0 file.groups) where
+  abbrev count : ℕ
+  count = length (kinds_of (kept_of file.groups))
+
+  sent_there : (n : ℕ) → n < length (kinds_of file.groups) → at (ids_of file.groups) n < count
+  sent_there n lt =
+      let k = get_some (kinds_of file.groups) n lt in
+      slice_get_within (kinds_of (kept_of file.groups)) (at (ids_of file.groups) n) (renamed_kind (at (ids_of file.groups)) k.0) (kind_there carries file.groups below n k.0 k.1)
+
+  sent_or_none : (n : ℕ) → (at (ids_of file.groups) n < count) ⊎ (count ≡ 0)
+  sent_or_none n = elim (cases_lt n (length (kinds_of file.groups))) as (λ _. (at (ids_of file.groups) n < count) ⊎ (count ≡ 0)) [
+    | inl less ↦ inl (sent_there n less)
+    | inr more ↦ (
+        let zero_is = past (ids_of file.groups) n (let all = many carries file.groups below in omega (arith, more, all)) in
+        elim (cases_lt 0 count) as (λ _. (at (ids_of file.groups) n < count) ⊎ (count ≡ 0)) [ inl some ↦ inl (omega (arith, zero_is, some)) | inr none ↦ inr (omega (arith, none)) ]
+        )
+  ]
+
+  none_of_file : count ≡ 0 → kinds_of file.groups ≡ []
+  none_of_file none = empty (kinds_of file.groups) (
+      elim (cases_lt 0 (length (kinds_of file.groups))) as (λ _. length (kinds_of file.groups) ≡ 0) [
+        | inl some ↦ absurd (let lt = sent_there 0 some in omega (arith, lt, none))
+        | inr no_types ↦ omega (arith, no_types)
+      ]
+      )
+
 -- ---- a module that was read
 
-module _ {B : Type 0} (missing : HandlersAreMissing) (none : NoneStandBehind) (behind : TypesAreMerged) (settled : ReadTypesAreSettled B) where
+module _ {B : Type 0} (carries : ParsingCarriesSame) (missing : HandlersAreMissing) (none : NoneStandBehind) (behind : TypesAreMerged) (settled : ReadTypesAreSettled B) where
   read_types : ReadTypesAreRead B
   read_types config bytes m found file is reads h grouped =
       let t : Table = m.types in
@@ -128,8 +172,8 @@ module _ {B : Type 0} (missing : HandlersAreMissing) (none : NoneStandBehind) (b
       let s = settled config bytes m found is in
       let homed : AreHomed t = edited_homed t grouped s.merged in
       let kept : filled.kept found.types 0 file.groups ≡ kept_of file.groups = ap (λ (ids : List ℕ). filled.kept ids 0 file.groups) h.types ∙ kept_same (ids_of file.groups) 0 file.groups in
-      let many : length (kinds_of (filled.kept found.types 0 file.groups)) ≡ n = ap (λ (l : List TypeGroup). length (kinds_of l)) kept in
-      let order : type_ids t ≡ upto n ++ h.types_in_order.0 = h.types_in_order.1 ∙ ap (λ (c : ℕ). upto c ++ h.types_in_order.0) many in
+      let count_is : length (kinds_of (filled.kept found.types 0 file.groups)) ≡ n = ap (λ (l : List TypeGroup). length (kinds_of l)) kept in
+      let order : type_ids t ≡ upto n ++ h.types_in_order.0 = h.types_in_order.1 ∙ ap (λ (c : ℕ). upto c ++ h.types_in_order.0) count_is in
       let own : own_groups t ≡ kept_of file.groups ++ map merged.single (handler_kinds file) =
       ap (λ (x : Module). x.groups) h.meant ∙ ap (λ (l : List TypeGroup). l ++ map merged.single (handler_kinds file)) kept in
       let below : GroupsBelow 0 (kept_of file.groups) =
@@ -147,6 +191,13 @@ module _ {B : Type 0} (missing : HandlersAreMissing) (none : NoneStandBehind) (b
       ap (λ (gs : List TypeGroup). slice_get (kinds_of gs) place.0) (own_are t) ∙ groups_kind t (written_groups t) inside place.0 id kind place.1 written in
       let at_j = contains_has (kind_names kind) j c in
       below_at n (kinds_of (own_groups t)) place.0 kind all there j (has_in (kind_names kind) at_j.0 j at_j.1) in
+      let groups : own_groups t ≡ kept_of file.groups ++ handler_groups file = own ∙ ap (λ (l : List TypeGroup). kept_of file.groups ++ l) (handlers_lacking file) in
+      let none_at : n ≡ 0 → length (members t) ≡ 0 =
+      λ zero_is.
+      let no_kinds = none_of_file carries file h.ruled.groups zero_is in
+      let no_handlers = none_lacking file (no_body (kinds_of file.groups) no_kinds file.functions h.ruled.linked.functions_typed) in
+      let all_kept : kept_of file.groups ++ handler_groups file ≡ kept_of file.groups = ap (λ (l : List TypeGroup). kept_of file.groups ++ l) no_handlers ∙ append-nil (kept_of file.groups) in
+      sym (groups_many t (written_groups t) inside) ∙ sym (ap (λ (gs : List TypeGroup). length (kinds_of gs)) (own_are t)) ∙ ap (λ (gs : List TypeGroup). length (kinds_of gs)) (groups ∙ all_kept) ∙ zero_is in
       record {
         are = record {
           grouped = grouped;
@@ -156,8 +207,19 @@ module _ {B : Type 0} (missing : HandlersAreMissing) (none : NoneStandBehind) (b
           names = names;
         };
         many = refl;
-        groups = own ∙ ap (λ (l : List TypeGroup). kept_of file.groups ++ l) (handlers_lacking file);
+        groups = groups;
+        sent = λ k. elim (sent_or_none carries file h.ruled.groups k) as (λ _. (at (ids_of file.groups) k < n) ⊎ ((id : ℕ) → is_written t id ≡ false)) [
+          | inl less ↦ inl less
+          | inr zero_is ↦ inr (λ id. elim (cases_Bool (is_written t id)) as (λ _. is_written t id ≡ false) [
+            | inl w ↦ (
+                let place = contains_has (members t) id ((homed.homed id).1 w) in
+                let lt = slice_get_within (members t) place.0 id place.1 in
+                absurd (omega (arith, lt, none_at zero_is))
+                )
+            | inr not_so ↦ not_so
+          ])
+        ];
       }
 
-pub read_are_read : {B : Type 0} → HandlersAreMissing → NoneStandBehind → TypesAreMerged → ReadTypesAreSettled B → ReadTypesAreRead B
-read_are_read missing none behind settled config bytes m found file is reads h grouped = read_types missing none behind settled config bytes m found file is reads h grouped
+pub read_are_read : {B : Type 0} → ParsingCarriesSame → HandlersAreMissing → NoneStandBehind → TypesAreMerged → ReadTypesAreSettled B → ReadTypesAreRead B
+read_are_read carries missing none behind settled config bytes m found file is reads h grouped = read_types carries missing none behind settled config bytes m found file is reads h grouped

@@ -10,7 +10,7 @@ use Rattle.walrus_forms.specs.Kinds.{Kind}
 use Rattle.walrus_types.specs.Emission.{shown_kind, written_kind, is_written, written_groups}
 use Rattle.walrus_types.specs.Items.{Item, Group}
 use Rattle.walrus_types.specs.Merged.{IsMerged, UnmarkedAreSingle, single_group}
-use Rattle.walrus_types.specs.Table.{Table, type_at, group_at, merges, names_itself}
+use Rattle.walrus_types.specs.Table.{Table, type_at, group_at}
 use Rattle.walrus_types.proofs.OnceLemmas.{is_shown}
 use Rattle.walrus_types.proofs.Places.{contains_has, has_contains}
 use Rattle.walrus_type_laws.proofs.Written.{kind_of, written_item}

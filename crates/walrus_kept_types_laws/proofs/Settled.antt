@@ -1,12 +1,10 @@
 -- Lemmas: the types of a module that was read are settled: those of the file are, each call that a body adds a type by keeps them so, and names don't matter.
-use Rattle.std.specs.Prelude.{ℕ, ◌≡◌, ◌<◌, false, List, [], ◌∷◌, All, map, Option, Some, None, MatchOption, slice_index_or}
+use Rattle.std.specs.Prelude.{ℕ, ◌≡◌, false, List, [], ◌∷◌, All, map, Option, Some, None, MatchOption, slice_index_or}
 use Rattle.std.specs.List.{AllByRecursion}
 use Rattle.std.specs.Option.{option_map}
 use Rattle.std.proofs.Common.{refl, ap, sym, subst, ◌∙◌}
 use Rattle.std.proofs.lemmas.List.Elements.{All-cons, All-nil}
 use Rattle.std.proofs.lemmas.Option.{none-some, same_Some}
-use Rattle.walrus_arena.specs.Arena.{Arena}
-use Rattle.walrus_config.specs.declared.config.ModuleConfig.{ModuleConfig}
 use Rattle.walrus_forms.specs.Kinds.{Kind, entry_kind, function_kind}
 use Rattle.walrus_forms.specs.Records.{TypeGroup}
 use Rattle.walrus_forms.specs.declared.value.ValType.{ValType}
@@ -16,7 +14,7 @@ use Rattle.walrus_instr.specs.declared.seq.InstrSeqType.TheVariants.{MultiValue}
 use Rattle.walrus_types.specs.Items.{Item, Group}
 use Rattle.walrus_types.specs.Merged.{IsMerged, UnmarkedAreSingle, single_group}
 use Rattle.walrus_types.specs.Parsing.{parsed, unparsed, with_group}
-use Rattle.walrus_types.specs.Table.{Adds, Merges, Table, equal_type, group_at, merges, names_itself, type_at}
+use Rattle.walrus_types.specs.Table.{Merges, Table, group_at, merges, names_itself, type_at}
 use Rattle.walrus_type_laws.specs.Edits.{IsSettled}
 use Rattle.walrus_type_laws.specs.Ordinary.{AreOrdinary, IsOrdinary}
 use Rattle.walrus_type_laws.proofs.Grown.{Fits, Inner, grown_inner, merges_kept, parsed_kept}
@@ -30,12 +28,10 @@ use Rattle.walrus_file_bodies.specs.walrus_items_into.walrus_tables_into.walrus_
 use Rattle.walrus_file_bodies.specs.walrus_module_bodies.Steps.{State, Steps, state}
 use Rattle.walrus_file_bodies.specs.walrus_module_bodies.declared.file.FileEnv.{FileEnv}
 use Rattle.walrus_file_bodies.specs.Ready.{bodies_in}
-use Rattle.walrus_index_maps.specs.Maps.{Ids}
 use Rattle.walrus_builder.specs.Built.{Seq, contents, seq_of}
 use Rattle.walrus_item_names.specs.Holder.{Holder}
 use Rattle.walrus_item_names.specs.Names.{bare_type}
-use Rattle.walrus_module.specs.declared.module.Module.{Module as Whole}
-use Rattle.walrus_named_bodies.specs.Parsed.{IsReadAs, read_features}
+use Rattle.walrus_named_bodies.specs.Parsed.{read_features}
 use Rattle.walrus_parse_laws.specs.FilledGroups.{AreDeclared, ReadTypesAreDeclared}
 use Rattle.wasm_features.specs.declared.WasmFeatures.{WasmFeatures}
 use Rattle.walrus_kept_types_laws.specs.Read.{ReadTypesAreSettled}

@@ -1,5 +1,5 @@
 -- Lemmas: what is written of types of which some are deleted, in words of the module that has them all.
-use Rattle.std.proofs.Common.{◌≡◌, ◌∙◌, ℕ, zero, suc, ◌+◌, ◌<◌, Bool, true, List, [], ◌∷◌, ◌++◌, length, map, filter, Option, Some, None, if◌then◌else◌, refl, sym, ap, subst, arith, length-append, unwrap_or}
+use Rattle.std.proofs.Common.{◌≡◌, ◌∙◌, ℕ, ◌+◌, Bool, true, List, [], ◌∷◌, length, map, filter, Option, Some, None, if◌then◌else◌, refl, sym, ap, subst, arith, length-append, unwrap_or}
 use Rattle.std.specs.Prelude.{slice_index_or}
 use Rattle.std.specs.List.{slice_get, flat_map, range_with_len}
 use Rattle.std.proofs.lemmas.List.FromFn.{length-range_with_len}
@@ -20,14 +20,14 @@ use Rattle.walrus_type_laws.specs.Alike.{AreHomed, members, renamed_group}
 use Rattle.walrus_type_laws.specs.Edited.{EditedAreReadBack}
 use Rattle.walrus_type_laws.specs.Rounds.{read}
 use Rattle.walrus_type_laws.proofs.Steady.{edited_homed}
-use Rattle.walrus_type_laws.proofs.Written.{AllWritten, home_written, types_of}
+use Rattle.walrus_type_laws.proofs.Written.{home_written, types_of}
 use Rattle.walrus_meaning.specs.Meaning.{group_kinds, own_groups, type_ids}
 use Rattle.wasm_grammar.specs.States.{types_of as kinds_there}
 use Rattle.wasm_merged_modules.specs.Merged.{ids_of, kinds_of}
 use Rattle.wasm_references.specs.References.{Numbered, numbered}
 use Rattle.wasm_part.specs.Written.{GroupsStand, has_types, with_types}
 use Rattle.walrus_kept_types_laws.specs.Placed.{place_among, placed_indices, placed_table}
-use Rattle.walrus_kept_types_laws.specs.Written.{AreLeft, AreRead, KeptTypesAreWritten, PlacesHaveIndices, TypesHaveTheirIndices, WritesTypes}
+use Rattle.walrus_kept_types_laws.specs.Written.{AreLeft, AreRead, KeptTypesAreWritten, TypesHaveTheirIndices, WritesTypes}
 use Rattle.walrus_kept_types_laws.proofs.Lists.{all_places, at_found, filter_mapped, in_has}
 use Rattle.walrus_kept_types_laws.proofs.Meant.{groups_kind, groups_many, groups_numbered, ids_members, own_are}
 use Rattle.walrus_kept_types_laws.proofs.Placed.{groups_same, kind_found, placed_emission, placed_types, written_same}

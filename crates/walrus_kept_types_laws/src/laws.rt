@@ -1,11 +1,12 @@
 //! Laws: functions with nothing to do but to call others, whose contracts hold of all modules.
 
-ghost use Rattle.walrus_kept_types_laws.specs.Kept.{ReadTypesAreWritten};
+ghost use Rattle.walrus_kept_types_laws.specs.Kept.{FileTypesHaveTheirIndices, ReadTypesAreWritten};
 ghost use Rattle.walrus_kept_types_laws.specs.Read.{HandlersAreLacking, ReadTypesAreRead, ReadTypesAreSettled};
 ghost use Rattle.walrus_kept_types_laws.specs.Written.{KeptTypesAreWritten, TypesHaveTheirIndices};
 
 use walrus_parse_laws::filled_groups::read_types_are_declared;
 use walrus_type_laws::parsed::edited_are_read_back;
+use walrus_types::laws::parsing_carries_same;
 use wasm_merged_modules::laws::types_are_merged;
 use wasm_part::laws::handlers_are_missing;
 
@@ -37,6 +38,7 @@ pub fn handlers_are_lacking()
 pub fn read_types_are_read<B>()
     ensures { ReadTypesAreRead B }
 {
+    parsing_carries_same();
     handlers_are_missing();
     types_are_merged();
     read_types_are_settled::<B>();
@@ -49,4 +51,11 @@ pub fn read_types_are_written<B>()
 {
     read_types_are_read::<B>();
     kept_types_are_written();
+}
+
+/// A type that an item of the file names is written at the number that it has by its id.
+pub fn file_types_have_their_indices<B>()
+    ensures { FileTypesHaveTheirIndices B }
+{
+    read_types_are_read::<B>();
 }

@@ -1,0 +1,14 @@
+mod Left
+mod Stay
+mod Reach
+mod Refs
+mod Low
+mod Walk
+mod Text
+mod Parts
+mod Found
+mod Types
+mod Handled
+mod Turns
+mod Kept
+mod Planned

@@ -1,0 +1,4 @@
+mod Customs
+mod Dense
+mod Groups
+mod Ruled

@@ -1,0 +1,4 @@
+pub mod Customs
+pub mod Dense
+pub mod Ruled
+pub mod Whole
