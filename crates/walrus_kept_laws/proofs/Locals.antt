@@ -305,7 +305,7 @@ module _ (locals : List Local) (local : LocalFunction) where
           | inl f ↦ inl (ap (slice_get (x ∷ xs)) on ∙ f)
           | inr f ↦ inr (on ∙ ap suc f.0, λ h. elim h as (λ _. ⊥) [ inl e ↦ ne e | inr i ↦ f.1 i ])
         ]
-    )
+        )
   ]
 
   past_end : (ys : List ValType) → slice_get ys (length ys) ≡ None

@@ -136,9 +136,13 @@ module _ (features : WasmFeatures) (r : Renaming) where
   items_renamed [] xs h k = ap (map (renamed_item r)) h
   items_renamed (form ∷ forms) xs h k =
       let P : Name → Type 0 = λ n. r n.0 n.1 < most_of n.0 in
-      let new = subst (λ (xs : List Item). NamesFit r (flat_map item_names xs)) h.2 k in
-      (renamed_item r h.0, map (renamed_item r) h.1, ap (map (renamed_item r)) h.2, item_renamed form h.0 h.3 (left_all P (item_names h.0) (flat_map item_names h.1) new),
-      items_renamed forms h.1 h.4 (right_all P (item_names h.0) (flat_map item_names h.1) new))
+      let new = subst (λ (xs : List Item). NamesFit r (flat_map item_names xs)) h.2 k in (
+        renamed_item r h.0,
+        map (renamed_item r) h.1,
+        ap (map (renamed_item r)) h.2,
+        item_renamed form h.0 h.3 (left_all P (item_names h.0) (flat_map item_names h.1) new),
+        items_renamed forms h.1 h.4 (right_all P (item_names h.0) (flat_map item_names h.1) new),
+      )
 
 pub operators_renamed : RenamedOperatorsFit
 operators_renamed features r op h k = record { kind = h.kind; listed = h.listed; items = items_renamed features r (forms h.kind) op.items h.items k }

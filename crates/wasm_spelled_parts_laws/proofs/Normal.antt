@@ -52,6 +52,7 @@ latest_low test bound (kind ∷ kinds) n found le low k e =
   where
     some_is : (x y : ℕ) → (let some : ℕ → Option ℕ = λ x. Some x in some x ≡ some y) → x ≡ y
     some_is x y e = cc
+
     go : (b : Bool) (j : ℕ) → (if b then Some n else found) ≡ Some j → j < bound
     go true j is = let same : n ≡ j = some_is n j is in omega (arith, le, same)
     go false j is = low j is
@@ -103,7 +104,6 @@ module _ (a : Around) (few : length (types_of a.filled) ≤ 1000000) (kinds : Al
 -- ---- operators with the picks of their block types
 
 module _ (features : WasmFeatures) (choose : BlockType → BlockType) (chosen : (ty : BlockType) → BlockFits features ty → BlockFits features (choose ty)) where
-
   abbrev with : Item → Item
   with x = with_pick choose x
 
@@ -320,10 +320,11 @@ module _ (small : FittingNamesAreSmall) (fit : RenamedOperatorsFit) (place : Opt
       let tys = map (renamed_value r) x.locals in
       let many : length tys ≡ length x.locals = length-map x.locals (renamed_value r) in
       let counted = subst (λ (n : ℕ). (n ≡ 0) ⊎ (params + n ≤ most_locals)) (sym many) ruled.counted in
-      let keys = filter_in a.features (λ (k : Key). is_used ops k.1) (numbered params tys) (numbered_in a.features params tys (values_retyped a.features r low x.locals h.0)) in
-      (keys_in a.features (used_keys params tys ops) (order_in a.features (filter (λ (k : Key). is_used ops k.1) (numbered params tys)) keys),
-      ops_renamed (with_numbers (new_number params (used_keys params tys ops)) (by_types r)) (numbers_low (new_number params (used_keys params tys ops)) (λ n lt. number_low params n tys ops counted lt)) ops
-      (ops_normal a.features (block_pick a) (block_fits a few kinds) x.operators h.1))
+      let keys = filter_in a.features (λ (k : Key). is_used ops k.1) (numbered params tys) (numbered_in a.features params tys (values_retyped a.features r low x.locals h.0)) in (
+        keys_in a.features (used_keys params tys ops) (order_in a.features (filter (λ (k : Key). is_used ops k.1) (numbered params tys)) keys),
+        ops_renamed (with_numbers (new_number params (used_keys params tys ops)) (by_types r)) (numbers_low (new_number params (used_keys params tys ops)) (λ n lt. number_low params n tys ops counted lt)) ops
+            (ops_normal a.features (block_pick a) (block_fits a few kinds) x.operators h.1),
+      )
 
   origin_normal : (params : ℕ) (o : Origin Body) → OriginRuled a params o → OriginIn a.features o → OriginIn a.features (normal_origin place a (by_types r Types) params o)
   origin_normal params (Imported n) ruled h = tt

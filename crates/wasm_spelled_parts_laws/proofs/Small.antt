@@ -213,6 +213,7 @@ module _ (features : WasmFeatures) where
   kind_bytes immediates.Lane = (tt, tt)
   kind_bytes immediates.AccessLane = (tt, (tt, tt))
   kind_bytes immediates.Zero = (tt, tt)
+
   -- ---- operators
 
   prefix_small : (n : ℕ) → is_prefix n ≡ true → n < 256

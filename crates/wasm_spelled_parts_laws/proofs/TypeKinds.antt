@@ -256,6 +256,7 @@ module _ (features : WasmFeatures) where
       declared_small : (b : Bool) → declared_byte b < 256
       declared_small true = omega arith
       declared_small false = omega arith
+
       go : HasGcTypes features ⊎ ((kind.final ≡ true) × (kind.supertype ≡ None)) → SpellsForm features (form_bytes (form_from kind.form)) (form_from kind.form) × AreBytes (form_bytes (form_from kind.form))
           → (sub_writer features).fits (sub_from kind)
       go (inl gc) form =
