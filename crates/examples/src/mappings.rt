@@ -48,31 +48,41 @@ const NO_DIGITS: Part = Part {
 // The number with one more digit; `None` past 12 digits.
 fn with_digit(part: Part, digit: u64) -> Option<Part> {
     let more = (digit % 32).checked_mul(part.scale)?;
-    Some(Part {
-        number: part.number.checked_add(more)?,
-        scale: part.scale.checked_mul(32)?,
-    })
+    let number = part.number.checked_add(more)?;
+    let scale = part.scale.checked_mul(32)?;
+    Some(Part { number, scale })
+}
+
+// Adds a difference to the next number of a segment; `None` past the last.
+fn add_number(segment: &mut Segment, number: i64) -> Option<()> {
+    let field = segment.fields.get_mut(segment.count)?;
+    *field = field.wrapping_add(number);
+    segment.count = segment.count.saturating_add(1);
+    Some(())
+}
+
+// Reads a digit behind those of a part, and gives the part that is left.
+fn add_byte(segment: &mut Segment, part: Part, byte: u8) -> Option<Part> {
+    let digit = digit_of(byte)?;
+    let part = with_digit(part, digit)?;
+    if digit >= 32 {
+        return Some(part);
+    }
+    add_number(segment, signed(part.number))?;
+    Some(NO_DIGITS)
 }
 
 // A segment, given as text, behind the numbers so far.
-fn decode_one(text: &str, fields: &mut [i64; 5]) -> Option<usize> {
-    let mut count: usize = 0;
+fn decode_one(text: &str, fields: [i64; 5]) -> Option<Segment> {
+    let mut segment = Segment { fields, count: 0 };
     let mut part = NO_DIGITS;
     for byte in text.as_bytes() {
-        let digit = digit_of(*byte)?;
-        part = with_digit(part, digit)?;
-        if digit < 32 {
-            let field = fields.get_mut(count)?;
-            *field = field.wrapping_add(signed(part.number));
-            count += 1;
-            part = NO_DIGITS;
-        }
+        part = add_byte(&mut segment, part, *byte)?;
     }
-    if part.scale > 1 || count == 0 {
-        None
-    } else {
-        Some(count)
+    if part.scale > 1 || segment.count == 0 {
+        return None;
     }
+    Some(segment)
 }
 
 /// The segments of the first line; nothing where the text is malformed.
@@ -83,10 +93,11 @@ pub fn decode(alloc: Global, text: &str) -> Result<Option<Vec<Segment>>, AllocEr
         if part.is_empty() {
             continue;
         }
-        match decode_one(part, &mut fields) {
-            Some(count) => segments.push(Segment { fields, count })?,
-            None => return Ok(None),
-        }
+        let Some(segment) = decode_one(part, fields) else {
+            return Ok(None);
+        };
+        fields = segment.fields;
+        segments.push(segment)?;
     }
     Ok(Some(segments))
 }
@@ -122,6 +133,16 @@ fn encode_number(out: &mut String, number: i64) -> Result<(), AllocError> {
     Ok(())
 }
 
+// The numbers of a segment, behind those of the one before.
+fn encode_one(out: &mut String, last: &[i64; 5], segment: &Segment) -> Result<(), AllocError> {
+    for (field, (new, old)) in segment.fields.iter().zip(last.iter()).enumerate() {
+        if field < segment.count {
+            encode_number(out, new.wrapping_sub(*old))?;
+        }
+    }
+    Ok(())
+}
+
 /// The text of segments.
 pub fn encode(alloc: Global, segments: &[Segment]) -> Result<String, AllocError> {
     let mut out = String::new(alloc);
@@ -130,11 +151,7 @@ pub fn encode(alloc: Global, segments: &[Segment]) -> Result<String, AllocError>
         if !out.is_empty() {
             out.push(',')?;
         }
-        for field in 0..segment.fields.len() {
-            if field < segment.count {
-                encode_number(&mut out, segment.fields[field].wrapping_sub(last[field]))?;
-            }
-        }
+        encode_one(&mut out, &last, segment)?;
         last = follow(last, segment);
     }
     Ok(out)
