@@ -60,13 +60,13 @@ stand_next first others locals local used known keys f m stand =
     let old = subst (λ (l : List ℕ). HavePlaces l (m f)) (sym ids) stand in
     subst (λ (l : List ℕ). HavePlaces l (numbers_with f 0 (declared_ids locals local.args.items used) m f)) ids (places first others locals local.args.items used known.once f m old)
 
-written_keys : LocalsAreMeant → (locals : List Local) (function : ℕ) (local : LocalFunction) (used : List ℕ) (i : Indices) → IsKnown local used
+pub written_keys : LocalsAreMeant → (locals : List Local) (function : ℕ) (local : LocalFunction) (used : List ℕ) (i : Indices) → IsKnown local used
     → AreWritten (number_of (with_locals locals function local used i) function) (seqs_of local.builder) (operators (seqs_of local.builder) 0) → KeysMeant locals local used
 written_keys meant locals function local used i known w =
     let look : Look = number_of (with_locals locals function local used i) function in
     meant (numbers_in look) look (sends_numbers look (λ n. refl)) (λ n. refl) local w locals used known.names
 
-limit_off : (most n : ℕ) (of : Limited) (a : Due) (bytes : List ℕ) → limited most n of a ≡ written bytes → a ≡ written bytes
+pub limit_off : (most n : ℕ) (of : Limited) (a : Due) (bytes : List ℕ) → limited most n of a ≡ written bytes → a ≡ written bytes
 limit_off most n of a bytes e = go (nat_lt most n) e
   where
     go : (passed : Bool) → (if passed then lacking (OutputLimit of) else a) ≡ written bytes → a ≡ written bytes
@@ -99,7 +99,7 @@ module _ (a : Around) (params : ℕ) (r : Renaming) (i : Indices) (serves : Serv
       turned (written (runs_bytes ws)) (runs_bytes ws) (due_bytes a params (maximal_of (map (renamed_value (r items.Types)) tys)))
       (runs_same a params (r items.Types) i.types.number (serves.follows items.Types) serves.types tys ws is) (plain (runs_bytes ws))
 
-  runs_as : (tys : List ValType) → SpelledAs (runs_due i.types.number (runs_of tys)) (due_bytes a params (maximal_of (map (renamed_value (r items.Types)) tys)))
+  pub runs_as : (tys : List ValType) → SpelledAs (runs_due i.types.number (runs_of tys)) (due_bytes a params (maximal_of (map (renamed_value (r items.Types)) tys)))
   runs_as tys = runs_by tys (written_runs i.types.number (runs_of tys)) refl
 
   -- ---- with its operators
@@ -125,7 +125,7 @@ module _ (a : Around) (params : ℕ) (r : Renaming) (i : Indices) (serves : Serv
     local_place keys id n e =
         stand_next first others locals local used known keys function i.locals stand id n e
 
-    sends : keys_meant → Sends (after r by_place) look
+    pub sends : keys_meant → Sends (after r by_place) look
     sends keys items.Types id n e = sym (serves.follows items.Types id n e)
     sends keys items.Functions id n e = sym (serves.follows items.Functions id n e)
     sends keys items.Tables id n e = sym (serves.follows items.Tables id n e)

@@ -1,5 +1,5 @@
 mod Runs
 mod Places
-mod Texts
-mod Bodies
-mod Spellings
+pub mod Texts
+pub mod Bodies
+pub mod Spellings

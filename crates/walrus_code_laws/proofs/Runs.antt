@@ -55,8 +55,8 @@ equal_one Less = refl
 equal_one Equal = refl
 equal_one Greater = refl
 
-heads : (a b : ValType) (as bs : List ValType) → a ∷ as ≡ b ∷ bs → a ≡ b
-heads a b as bs e = cc
+heads : (a b : ValType) (xs ys : List ValType) → a ∷ xs ≡ b ∷ ys → a ≡ b
+heads a b xs ys e = cc
 
 tied_by : (a b : ValType) (c : Bool) → c ≡ true → declared_in (if c then (2, b) ∷ [] else (1, a) ∷ ((1, b) ∷ [])) ≡ a ∷ (b ∷ []) → a ≡ b
 tied_by a b true e d = sym (heads b a (b ∷ []) (b ∷ []) d)
@@ -157,8 +157,7 @@ module _ (r : ℕ → ℕ) (types : ℕ → Option ℕ) (follows : (id n : ℕ) 
   written_by x xs (Ok ty) (Err z) ws is later e = absurd cc
   written_by x xs (Ok ty) (Ok us) ws is later e =
       let one = value_is x.1 ty is in
-      let rest = later us refl in
-      (
+      let rest = later us refl in (
         (one.0, rest.0),
         sym (ok_same (put x ty us) ws e) ∙ ap (λ (w : WrittenValue). put x w us) one.1
             ∙ ap (λ (l : List WrittenRun). put x (value_from (renamed_value r x.1)) l) rest.1,

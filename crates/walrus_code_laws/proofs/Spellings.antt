@@ -83,7 +83,7 @@ module _ (spelling : BodiesAreSpelled) (first : ArgumentsFirst) (others : Others
     serves_kind None = serves
     serves_kind (Some local) = record { follows = serves.follows; types = serves.types; locals = serves.locals; labels = serves.labels }
 
-    serves_slot : (o : Option Function) → ServesBodies r (slot_numbers locals functions i facts o)
+    pub serves_slot : (o : Option Function) → ServesBodies r (slot_numbers locals functions i facts o)
     serves_slot None = serves
     serves_slot (Some f) = serves_kind (local_of f.kind)
 
@@ -114,7 +114,7 @@ module _ (spelling : BodiesAreSpelled) (first : ArgumentsFirst) (others : Others
           let keys = contents_keys meant locals facts.function local used i (knows f local is has) (drop (length size) bytes) p.1 in
           λ g h other there kind. local_stands local has keys g h other there kind (g == facts.function) refl
 
-    slot_stands : KnowsBody locals functions facts → BodiesHavePlaces locals functions i → (o : Option Function) → item_at functions facts.function ≡ o → (bytes : List ℕ)
+    pub slot_stands : KnowsBody locals functions facts → BodiesHavePlaces locals functions i → (o : Option Function) → item_at functions facts.function ≡ o → (bytes : List ℕ)
         → slot_due locals functions i facts o ≡ written bytes → BodiesHavePlaces locals functions (slot_numbers locals functions i facts o)
     slot_stands knows stand None is bytes e = stand
     slot_stands knows stand (Some f) is bytes e = kind_stands knows stand f is (local_of f.kind) refl bytes e

@@ -9,7 +9,8 @@ use Rattle.std.proofs.lemmas.Bool.Decides.{nat_tests}
 use Rattle.std.proofs.lemmas.Bool.{false≢true}
 use Rattle.std.proofs.lemmas.List.Sorted.{Contains-permutation, IsPermutation-sym}
 use Rattle.walrus_instr.specs.declared.seq.InstrLocId.{InstrLocId}
-use Rattle.walrus_emit.specs.Places.{ArePlaces, IsLastPlace, IsPlaceOf, Pair, all_placed, ends, lasts, pair_cmp, placed}
+use Rattle.walrus_emit.specs.Pairs.{Pair, all_placed, ends, lasts, pair_cmp, placed}
+use Rattle.walrus_emit.specs.Places.{ArePlaces, IsLastPlace, IsPlaceOf}
 
 -- ---- elements
 

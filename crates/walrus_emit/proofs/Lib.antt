@@ -4,3 +4,4 @@ pub mod DeclaredLemmas
 pub mod WholeLemmas
 pub mod WrittenLemmas
 pub mod Lasts
+pub mod ToldLemmas

@@ -1,8 +1,7 @@
 -- Where code stands in what was written.
-use Rattle.std.specs.Prelude.{ℕ, ◌+◌, ◌≡◌, ◌≤◌, ◌==◌, ◌↔◌, Bool, true, not, List, [], ◌∷◌, Contains, map, if◌then◌else◌}
+use Rattle.std.specs.Prelude.{ℕ, ◌+◌, ◌≡◌, ◌≤◌, ◌↔◌, List, Contains, map}
 use Rattle.std.specs.List.Sorted.{IsPermutation, IsSortedByKey, IsStrictlySortedBy}
-use Rattle.std.specs.Ordering.{nat_cmp, ordering_then}
-use Rattle.std.specs.declared.cmp.Ordering.{Ordering}
+use Rattle.std.specs.Ordering.{nat_cmp}
 use Rattle.std.specs.declared.ops.Range.{Range}
 use Rattle.walrus_instr.specs.declared.seq.InstrLocId.{InstrLocId}
 use Rattle.walrus_sections.specs.declared.transform.CodeTransform.{CodeTransform}
@@ -37,27 +36,3 @@ pub record Tells (locations : List (ℕ × ℕ)) (ranges : List (ℕ × Range �
   pub map : ArePlaces locations start transform.instruction_map.items
   pub bodies : AreRanges ranges start transform.function_ranges.items
   pub begins : transform.code_section_start ≡ start
-
--- ---- how they are found: pairs of one location stand together, the last place last
-
-abbrev pub Pair : Type 0
-Pair = ℕ × ℕ
-
--- by location, then by place
-abbrev pub pair_cmp : Pair → Pair → Ordering
-pair_cmp x y = ordering_then (nat_cmp x.0 y.0) (nat_cmp x.1 y.1)
-
-abbrev pub ends : List (ℕ × ℕ) → Bool
-ends [] = true
-ends (p ∷ []) = true
-ends (p ∷ q ∷ ps) = not (q.0 == p.0)
-
-abbrev pub lasts : List (ℕ × ℕ) → List (ℕ × ℕ)
-lasts [] = []
-lasts (p ∷ ps) = if ends (p ∷ ps) then p ∷ lasts ps else lasts ps
-
-abbrev pub placed : ℕ → ℕ × ℕ → InstrLocId × ℕ
-placed start p = (record { 0 = p.0 }, start + p.1)
-
-abbrev pub all_placed : ℕ → List (ℕ × ℕ) → List (InstrLocId × ℕ)
-all_placed start pairs = map (placed start) (lasts pairs)

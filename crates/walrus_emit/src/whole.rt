@@ -1,12 +1,15 @@
 //! A whole module is written.
-ghost use Rattle.std.specs.Prelude.{◌≡◌, ◌≤◌, ◌^◌, ◌⊎◌, ◌++◌, false, length, IfErr, IfOk, OnOk};
+ghost use Rattle.std.specs.Prelude.{◌≡◌, ◌≤◌, ◌^◌, ◌⊎◌, ◌++◌, false, length, is_some, IfErr, IfOk, OnOk};
 ghost use Rattle.walrus_index_maps.specs.Views.{indices};
 ghost use Rattle.walrus_module.specs.Parts.{parts};
 ghost use Rattle.walrus_refusals.specs.Sound.{IsRefused, IsSound};
+ghost use Rattle.walrus_sections.specs.Sections.{boxed_at};
+ghost use Rattle.walrus_emit_customs.specs.Told.{has_boxed};
 ghost use Rattle.walrus_emit_parts.specs.Due.{written};
 ghost use Rattle.walrus_emit.specs.Left.{LeavesDeclared};
 ghost use Rattle.walrus_emit.specs.Listed.{listed};
 ghost use Rattle.walrus_emit.specs.Places.{Tells};
+ghost use Rattle.walrus_emit.specs.Told.{AreTold};
 ghost use Rattle.walrus_emit.specs.Whole as due;
 ghost use Rattle.walrus_emit.specs.Written.{IsEmitted, IsStandard, IsTransformed, IsWritten};
 
@@ -16,12 +19,13 @@ use crate::context::EmitContext;
 use crate::segment::declare;
 use crate::transform::transform_of;
 use std::alloc::Global;
+use walrus_arena::UntypedCustomSectionId;
 use walrus_emit_code::Emission;
 use walrus_emit_customs::{transform_sections, write_sections};
 use walrus_emit_numbers::{BodyFacts, facts_of};
 use walrus_errors::{Limited, ModuleError, Result};
 use walrus_module::Module;
-use walrus_sections::{CodeTransform, CustomSection};
+use walrus_sections::{CodeTransform, CustomSection, Sections};
 
 /// What was written of a module.
 pub type Emitted = Emission;
@@ -55,9 +59,11 @@ fn code_transform(alloc: Global, emission: &Emission) -> Result<CodeTransform>
 }
 
 // Tells a program's own sections where code stands, where that is wanted.
+#[tactic(auto, using(crate::proofs::ToldLemmas::not_wanted, crate::proofs::ToldLemmas::none_there, crate::proofs::ToldLemmas::were_told))]
 fn tell<B: CustomSection>(alloc: Global, input: &mut Module<B>, emission: &Emission) -> Result<()>
     ensures rest { parts input.new ≡ parts input.old }
     ensures untold { input.old.config.preserve_code_transform ≡ false → input.new.customs ≡ input.old.customs }
+    ensures told { OnOk result (AreTold B.own_name B.transformed emission.now.locations.items emission.now.ranges.items emission.now.code_section_start input.old.config.preserve_code_transform input.old.customs input.new.customs) }
 {
     if !input.config().preserve_code_transform {
         return Ok(());
@@ -66,13 +72,23 @@ fn tell<B: CustomSection>(alloc: Global, input: &mut Module<B>, emission: &Emiss
         return Ok(());
     }
     let transform = code_transform(alloc, emission)?;
-    transform_sections(alloc, &mut input.customs, &transform)
+    transform_sections(alloc, &mut input.customs, &transform)?;
+    Ok(())
+}
+
+// Whether this is a section of a program's own.
+fn is_own<B: CustomSection>(sections: &Sections<B>, id: UntypedCustomSectionId) -> bool
+    ensures { result ≡ is_some (boxed_at sections.now id) }
+{
+    sections.get(id).is_some()
 }
 
 // Whether there is a section of a program's own.
-fn has_own<B: CustomSection>(input: &Module<B>) -> bool {
+fn has_own<B: CustomSection>(input: &Module<B>) -> bool
+    ensures { result ≡ has_boxed input.now.customs }
+{
     for id in input.customs.iter() {
-        if input.customs.get(id).is_some() {
+        if is_own(&input.customs, id) {
             return true;
         }
     }
@@ -111,6 +127,7 @@ pub fn emit_sound<B: CustomSection>(alloc: Global, input: &mut Module<B>) -> Res
     ensures untold { input.old.config.preserve_code_transform ≡ false → input.new.customs ≡ input.old.customs }
     ensures written { IfOk result (λ emitted. IsWritten B.own_name B.contents input.old input.new emitted.bytes.items) }
     ensures stands { IfOk result (λ emitted. IsEmitted B.own_name B.contents input.old input.new emitted) }
+    ensures told { IfOk result (λ emitted. AreTold B.own_name B.transformed emitted.locations.items emitted.ranges.items emitted.code_section_start input.old.config.preserve_code_transform input.old.customs input.new.customs) }
 {
     let found = facts_of(alloc, &input.funcs)?;
     let facts = found.as_slice();

@@ -1,3 +1,4 @@
 pub mod Customs
 pub mod Names
 pub mod Rising
+pub mod Told

@@ -1,12 +1,13 @@
 //! Custom sections (Core Specification, binary format: custom section).
 
-ghost use Rattle.std.specs.Prelude.{◌≡◌, Some};
+ghost use Rattle.std.specs.Prelude.{◌≡◌, IfOk, OnErr, OnOk, Some};
 ghost use Rattle.walrus_arena.specs.Arena.{item_at};
 ghost use Rattle.walrus_index_maps.specs.Views.{indices};
 ghost use Rattle.walrus_sections.specs.Sections.{name_in};
 ghost use Rattle.walrus_emit_parts.specs.Due.{Writes};
 ghost use Rattle.walrus_emit_customs.specs.Customs as due;
 ghost use Rattle.walrus_emit_customs.specs.Customs.{custom, any_due, customs, standing_due, stands_at};
+ghost use Rattle.walrus_emit_customs.specs.Told.{all_told, change_at, told_ids};
 
 use std::alloc::Global;
 use walrus_arena::UntypedCustomSectionId;
@@ -156,9 +157,12 @@ fn transform_one<B: CustomSection>(
     sections: &mut Sections<B>,
     id: UntypedCustomSectionId,
     transform: &CodeTransform,
-) {
-    if let Some(section) = sections.get_mut(id) {
-        section.apply_code_transform(transform);
+)
+    ensures { sections.new ≡ change_at (λ b. B.transformed b transform.now) sections.old id }
+{
+    match sections.get_mut(id) {
+        Some(section) => section.apply_code_transform(transform),
+        None => {}
     }
 }
 
@@ -166,7 +170,9 @@ fn transform_one<B: CustomSection>(
 fn told<B: CustomSection>(
     alloc: Global,
     sections: &Sections<B>,
-) -> Result<Vec<UntypedCustomSectionId>> {
+) -> Result<Vec<UntypedCustomSectionId>>
+    ensures { IfOk result (λ ids. ids.items ≡ told_ids B.own_name sections.now) }
+{
     let mut ids = Vec::new(alloc);
     for id in sections.iter() {
         if stands(sections, id, false) {
@@ -185,7 +191,10 @@ pub fn transform_sections<B: CustomSection>(
     alloc: Global,
     sections: &mut Sections<B>,
     transform: &CodeTransform,
-) -> Result<()> {
+) -> Result<()>
+    ensures told { OnOk result (sections.new ≡ all_told (λ b. B.transformed b transform.now) B.own_name sections.old) }
+    ensures untold { OnErr result (sections.new ≡ sections.old) }
+{
     let ids = told(alloc, &*sections)?;
     for id in &ids {
         transform_one(sections, *id, transform);

@@ -221,8 +221,8 @@ module _ (e : ModuleEnv) (function : ℕ) (h : List ValType → List ValType →
     refuses_total (inl x) = inl x
     refuses_total (inr x) =
         let rs = x.begins.declares.runs in
-        let some = sees_more (some_for i) a params rs ls ms j some_around.sees x.begins.declares.adds in
-        let whole = sees_more (total_for i) a params rs ls ms j total_around.sees x.begins.declares.adds in
+        let some = sees_more (some_for i) a params rs x.begins.declares.kept ls ms j some_around.sees x.begins.declares.adds in
+        let whole = sees_more (total_for i) a params rs x.begins.declares.kept ls ms j total_around.sees x.begins.declares.adds in
         let parsers : parser_of features (some_for j) ≡ parser_of features (total_for j) =
         parsers_agree (some_for j) features a (fold next_total params rs) around.features_are some ∙ sym (parsers_agree (total_for j) features a (fold next_total params rs) around.features_are whole) in
         inr (record {

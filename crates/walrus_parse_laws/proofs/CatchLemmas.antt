@@ -16,7 +16,7 @@ use Rattle.walrus_body_laws.specs.walrus_pairing.walrus_instr.declared.seq.Instr
 use Rattle.walrus_body_laws.specs.walrus_pairing.walrus_instr.declared.seq.InstrSeq.{InstrSeq}
 use Rattle.walrus_body_laws.specs.walrus_pairing.walrus_instr.declared.seq.InstrSeqType.{InstrSeqType}
 use Rattle.walrus_named_bodies.specs.walrus_item_names.walrus_module.walrus_builder.Built.{Seq, seq_of}
-use Rattle.walrus_named_bodies.specs.walrus_file_bodies.walrus_items_into.walrus_module_env.walrus_handler_types.walrus_handler_laws.walrus_tree.walrus_walks.Tree.{children_in, handlers}
+use Rattle.walrus_named_bodies.specs.walrus_file_bodies.walrus_items_into.walrus_module_env.walrus_handler_types.walrus_handler_laws.walrus_tree.walrus_walks.Tree.{children_in}
 use Rattle.walrus_named_bodies.specs.walrus_file_bodies.walrus_items_into.walrus_module_env.walrus_handler_types.walrus_handler_laws.walrus_tree.Trees.{Has, IsTree, Nothing, Stand, Tree, Trees, ids}
 use Rattle.walrus_body_laws.specs.walrus_pairing.Laws.{OperatorComesBack}
 use Rattle.walrus_named_bodies.specs.walrus_file_bodies.walrus_items_into.walrus_module_env.walrus_handler_types.walrus_handler_laws.walrus_body_steps.walrus_body_nesting.Stands.{Ended, Finish, Handles, HandlesAll, Otherwise, Part, StandsAs, Turn, lies, none, with}

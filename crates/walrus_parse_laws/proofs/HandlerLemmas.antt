@@ -12,7 +12,6 @@ use Rattle.walrus_named_bodies.specs.walrus_file_bodies.Laws.{BodiesReadFiles}
 use Rattle.walrus_named_bodies.specs.walrus_file_bodies.Read.{HasLocals, Waits, coded_by, grows_none, names_on, step_filed, step_names, step_on, steps_grow}
 use Rattle.walrus_named_bodies.specs.walrus_file_bodies.Ready.{bodies_in}
 use Rattle.walrus_named_bodies.specs.walrus_file_bodies.walrus_items_into.Laws.{FilledFunctionsStand, FilledModulesAreFiled}
-use Rattle.walrus_named_bodies.specs.walrus_file_bodies.walrus_items_into.Numbers.{types_in}
 use Rattle.walrus_named_bodies.specs.walrus_file_bodies.walrus_items_into.walrus_functions_into.Laws.{read_bodies}
 use Rattle.walrus_named_bodies.specs.walrus_file_bodies.walrus_items_into.walrus_functions_into.declared.bodies.FunctionBody.{FunctionBody}
 use Rattle.walrus_named_bodies.specs.walrus_file_bodies.walrus_items_into.walrus_module_env.Env.{own_pick, tag_type_at}

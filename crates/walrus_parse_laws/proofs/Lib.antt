@@ -28,6 +28,7 @@ pub mod BodiesNormalLemmas
 pub mod BodiesRuleLemmas
 pub mod UseLemmas
 mod KeyLemmas
+mod RankLemmas
 mod LocalsNameLemmas
 mod LocalsNormalLemmas
 mod PlaceLemmas
@@ -44,6 +45,7 @@ mod LinkedTableLemmas
 mod LinkedGroupLemmas
 mod LinkedLocalLemmas
 mod LinkedStepLemmas
+mod WalkedLemmas
 mod LinkedLemmas
 mod OnceLemmas
 mod GroupsTableLemmas

@@ -244,7 +244,7 @@ linked {B} whole links live indices stands filed bodies declares enter stay on w
     first : SoundNow old
     first = record {
       names = refl;
-      below = λ function k id e. absurd (let none = ap (λ (l : List ℕ). slice_get l k) (no_locals function) in let both = sym none ∙ e in cc);
+      below = λ function k id other e. absurd (let none = ap (λ (l : List ℕ). slice_get l k) (no_locals function) in let both = sym none ∙ e in cc);
       closed = filed_closed Good (types_of a.filled) i.types is.1.file.own_types is.1.filled.types (waits.filed is.1.filled.types (env_of is.1.file is.1.filled.types) (λ _. []) 0 (grows_none is.1.filled.types) (env_is is.1.file is.1.filled.types)).types_are is.1.is_file.own_types (λ k id e. named Types k id e);
       locals_good = tt;
     }
@@ -257,12 +257,12 @@ linked {B} whole links live indices stands filed bodies declares enter stay on w
 
     -- the locals that a body's walk names are there
     walk_good : (f : ℕ) (function : Function) (local : LocalFunction) → item_at m.funcs f ≡ Some function → function.kind ≡ kinds.Local local → Walked local → AllAre Good (items_of (body_walk (seqs_of local.builder) 0))
-    walk_good f function local there is walked y has = by (walked y has)
+    walk_good f function local there own walked y c = by (walked y c)
       where
         by : Walk Good y → Good y
         by (inl good) = good
         by (inr e) =
-            let inside = inner config bytes m found small is f function local there is nowhere (subst (Contains (items_of (body_walk (seqs_of local.builder) 0))) e has) in
+            let inside = inner config bytes m found small is f function local there own nowhere (subst (Contains (items_of (body_walk (seqs_of local.builder) 0))) e c) in
             subst Good (sym e) inside
 
     body_good : (kind : FunctionKind) (local : LocalFunction) → kind ≡ kinds.Local local → AllAre Good (items_of (body_walk (seqs_of local.builder) 0)) → AllOf Good (items_of (body_names m.locals kind))

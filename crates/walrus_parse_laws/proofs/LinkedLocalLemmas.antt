@@ -12,7 +12,7 @@ use Rattle.walrus_types.specs.walrus_items.declared.local.Local.{Local}
 use Rattle.walrus_body_laws.specs.walrus_marks.Named.{event_items, items_of}
 use Rattle.walrus_body_laws.specs.walrus_marks.walrus_walks.Events.{events_of, val_names}
 use Rattle.walrus_named_bodies.specs.walrus_file_bodies.walrus_items_into.walrus_tables_into.walrus_sections.walrus_roots.declared.item.Item.{Item}
-use Rattle.walrus_parse_laws.proofs.ListLemmas.{AllOf, all_join, some_is}
+use Rattle.walrus_parse_laws.proofs.ListLemmas.{AllOf, all_join}
 use Rattle.walrus_parse_laws.proofs.LinkedValueLemmas.{GoodValues}
 use Rattle.walrus_parse_laws.proofs.OwnLemmas.{get_id}
 use Rattle.walrus_parse_laws.proofs.RankLemmas.{flag_below, rank, rank_all, rank_rises}

@@ -220,7 +220,7 @@ module _ (stay : FoundTypesStay) (on : TablesGrowOn) (enter : EntryTypesGrow) (w
     step_sound = record { names = new_names; below = new_below; closed = new_closed; locals_good = new_good }
 
     -- once all types are there, what its walk names is good, or the local of no index
-    pub step_walk : Closed Good final → AllAre (Walk Good) Good (items_of (body_walk (seqs_of s.body.builder) 0))
+    pub step_walk : Closed Good final → AllAre (Walk Good) (items_of (body_walk (seqs_of s.body.builder) 0))
     step_walk closed y has =
         let e = env_of file final in
         let read = step_is_read stay on enter file features a count b bs old new w s e final grows (env_is file final) in

@@ -28,7 +28,7 @@ use Rattle.walrus_named_bodies.specs.walrus_item_names.Names.{bare_function, bar
 use Rattle.walrus_named_bodies.specs.walrus_file_bodies.walrus_items_into.Laws.{FilledFunctionsStand, FilledModulesAreFiled}
 use Rattle.walrus_named_bodies.specs.walrus_file_bodies.walrus_items_into.walrus_tables_into.walrus_sections_into.walrus_known_sections.State.{state_of}
 use Rattle.walrus_named_bodies.specs.walrus_file_bodies.walrus_items_into.walrus_module_bodies.walrus_body_trees.walrus_meaning.walrus_local_function.declared.local_function.LocalFunction.{LocalFunction}
-use Rattle.walrus_named_bodies.specs.walrus_file_bodies.walrus_items_into.walrus_module_bodies.walrus_body_trees.walrus_meaning.Bodies.{local_ids, own_operators, used_locals}
+use Rattle.walrus_named_bodies.specs.walrus_file_bodies.walrus_items_into.walrus_module_bodies.walrus_body_trees.walrus_meaning.Bodies.{local_ids, named_locals, own_operators, used_locals}
 use Rattle.walrus_named_bodies.specs.walrus_file_bodies.walrus_items_into.walrus_module_bodies.walrus_body_trees.walrus_meaning.walrus_module.Parts.{Module, parts}
 use Rattle.walrus_named_bodies.specs.walrus_file_bodies.walrus_module_bodies.Steps.{State, state}
 use Rattle.walrus_named_bodies.specs.walrus_file_bodies.walrus_items_into.walrus_module_bodies.walrus_body_trees.walrus_meaning.walrus_linked.walrus_module_items.declared.function.Function.{Function}
@@ -37,10 +37,11 @@ use Rattle.walrus_named_bodies.specs.Parsed.{read_features}
 use Rattle.walrus_parse_laws.proofs.WholeLemmas.{bare_same, bodies_are_due, bodies_lie, kind_at}
 use Rattle.walrus_parse_laws.specs.BodiesTexts.{MeansBody, ReadBodiesMeanTheirs, naming, text_of}
 use Rattle.walrus_parse_laws.specs.Locals.{HasLocals, ReadBodiesHaveTheirLocals, keys_of, kept_numbers}
-use Rattle.walrus_parse_laws.proofs.LocalsBodyLemmas.{all_ids, all_numbers, arguments_are, locals_are}
+use Rattle.walrus_parse_laws.proofs.LocalsBodyLemmas.{all_ids, all_numbers, arguments_are, locals_are, names_inside}
+use Rattle.walrus_parse_laws.proofs.LocalsNameLemmas.{Below}
 use Rattle.walrus_parse_laws.proofs.IdLemmas.{types_joined, types_of, types_same}
 use Rattle.walrus_parse_laws.proofs.LocalsRuleLemmas.{normal_below, normal_kept}
-use Rattle.walrus_parse_laws.proofs.ListLemmas.{AllOf}
+use Rattle.walrus_parse_laws.proofs.ListLemmas.{AllOf, all_contains}
 use Rattle.walrus_parse_laws.proofs.RankLemmas.{IsKept}
 use Rattle.walrus_parse_laws.proofs.LocalsStepLemmas.{LocalsIn, all_locals}
 
@@ -84,6 +85,8 @@ body_has m found final a is funcs bare b x k h =
           (all_ids m.locals h.local found a b.number x h.before h.more h.params h.kept h.many args types ids below used operators);
       numbers = subst (λ (n : ℕ). (o : ℕ) → (o < n) ⊎ (is_used (normal_ops (block_pick a) (text_of x)) o ≡ true) → slice_get (local_ids m.locals h.local) (new_number n (keys_of found a n x) o) ≡ Some (naming found b.number Locals o)) many
           (all_numbers m.locals h.local found a b.number x h.before h.more h.params h.kept h.many args types ids below used operators);
+      inside = λ id c. all_contains (Below (length m.locals)) (named_locals (own_operators h.local)) id
+          (names_inside m.locals h.local found a b.number x h.before h.more h.params h.kept h.many args types ids below used operators) c;
     }
 
 zipped : {A C : Type 0} (P Q R : A → C → Type 0) → ((x : A) (y : C) → P x y → Q x y → R x y) → (xs : List A) (ys : List C) → AllZip P xs ys → AllZip Q xs ys → AllZip R xs ys

@@ -1,6 +1,6 @@
 -- Lemmas: a module that was read means the module of its file.
 use Rattle.std.specs.Prelude.{ℕ, ◌≡◌, ◌<◌, ◌+◌, Bool, false, List, [], ◌++◌, if◌then◌else◌, IfSome, length, map, Option, Some, None, slice_get, slice_index_or, refl}
-use Rattle.std.specs.List.{AllZip, flat_map}
+use Rattle.std.specs.List.{flat_map}
 use Rattle.std.specs.Option.{option_map, unwrap_or}
 use Rattle.std.proofs.Common.{ap, sym, subst, ◌∙◌, arith}
 use Rattle.walrus_named_bodies.specs.walrus_file_bodies.walrus_items_into.walrus_module_env.walrus_handler_types.walrus_body_steps.wasm_body_grammar.Codes.{Code, ReadsCodes, param_count}

@@ -33,7 +33,7 @@ use Rattle.walrus_named_bodies.specs.walrus_item_names.Names.{bare_function, bar
 use Rattle.walrus_function_types.specs.FunctionTypes.{form_params, params_at}
 use Rattle.walrus_named_bodies.specs.walrus_file_bodies.walrus_items_into.walrus_module_bodies.walrus_body_trees.walrus_meaning.walrus_local_function.walrus_body_locals.Locals.{Adds, AddsKept, ids_from, kept_ids, locals_from, with_locals, with_more}
 use Rattle.walrus_named_bodies.specs.walrus_file_bodies.walrus_items_into.walrus_module_bodies.walrus_body_trees.walrus_meaning.walrus_local_function.walrus_body_locals.Named.{kept_by, kept_of}
-use Rattle.walrus_parse_laws.specs.Means.{AreApart, AreLocals, LocalIs, StandsIf, has_local}
+use Rattle.walrus_parse_laws.specs.Means.{AreApart, AreLocals, LocalIs, has_local}
 use Rattle.walrus_parse_laws.proofs.LocalsStepLemmas.{operators_of}
 use Rattle.walrus_parse_laws.proofs.RankLemmas.{flag, flag_below, rank, rank_all, rank_rises, rank_same}
 use Rattle.walrus_named_bodies.specs.walrus_item_names.walrus_module.walrus_module_items.declared.function.Function.{Function}

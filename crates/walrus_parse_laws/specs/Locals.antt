@@ -1,5 +1,5 @@
 -- What the locals of a module that was read are: those of the file's bodies in their normal forms.
-use Rattle.std.specs.Prelude.{ℕ, ◌≡◌, ◌⊎◌, ◌<◌, ◌++◌, true, List, All, length, map, Some, slice_get}
+use Rattle.std.specs.Prelude.{ℕ, ◌≡◌, ◌⊎◌, ◌<◌, ◌++◌, true, List, All, Contains, length, map, Some, slice_get}
 use Rattle.std.specs.List.{AllZip, range_with_len}
 use Rattle.walrus_named_bodies.specs.walrus_file_bodies.walrus_body_trees.walrus_body_nesting.wasm_body_grammar.Rules.{Around}
 use Rattle.walrus_named_bodies.specs.walrus_file_bodies.walrus_body_trees.walrus_body_nesting.wasm_body_grammar.wasm_grammar.Modules as grammar
@@ -17,7 +17,7 @@ use Rattle.walrus_named_bodies.specs.walrus_file_bodies.walrus_items_into.walrus
 use Rattle.walrus_named_bodies.specs.walrus_file_bodies.walrus_items_into.walrus_module_bodies.walrus_body_trees.walrus_meaning.walrus_body_writer.walrus_pairing.walrus_index_maps.Maps.{Ids}
 use Rattle.walrus_named_bodies.specs.walrus_file_bodies.walrus_items_into.walrus_tables_into.walrus_sections_into.walrus_known_sections.State.{state_of}
 use Rattle.walrus_named_bodies.specs.walrus_file_bodies.walrus_items_into.walrus_module_bodies.walrus_body_trees.walrus_meaning.walrus_local_function.declared.local_function.LocalFunction.{LocalFunction}
-use Rattle.walrus_named_bodies.specs.walrus_file_bodies.walrus_items_into.walrus_module_bodies.walrus_body_trees.walrus_meaning.Bodies.{local_ids, own_body}
+use Rattle.walrus_named_bodies.specs.walrus_file_bodies.walrus_items_into.walrus_module_bodies.walrus_body_trees.walrus_meaning.Bodies.{local_ids, named_locals, own_body, own_operators}
 use Rattle.walrus_named_bodies.specs.walrus_file_bodies.walrus_items_into.walrus_module_bodies.walrus_body_trees.walrus_meaning.walrus_module.Parts.{Module, parts}
 use Rattle.walrus_named_bodies.specs.walrus_file_bodies.walrus_items_into.walrus_module_bodies.walrus_body_trees.walrus_meaning.walrus_module.declared.module.Module.{Module as Whole}
 use Rattle.walrus_named_bodies.specs.walrus_file_bodies.walrus_items_into.walrus_module_bodies.walrus_body_trees.walrus_meaning.walrus_linked.walrus_module_items.declared.function.Function.{Function}
@@ -38,7 +38,8 @@ abbrev pub kept_numbers : ℕ → List Key → List ℕ
 kept_numbers params keys = range_with_len 0 params ++ map (λ (k : Key). k.1) keys
 
 -- in the module the function of this body declares the locals of the normal form of that one of the file, behind its parameters; the ids of
--- its locals stand in the order of their new numbers: a parameter's, or that of a local that is used, at its new number
+-- its locals stand in the order of their new numbers: a parameter's, or that of a local that is used, at its new number; and the locals that its
+-- operators name are the module's
 pub record HasLocals (m : Module) (found : Ids) (a : Around) (b : FunctionBody) (x : grammar.Body) : Type 0 where
   pub function : Function
   pub there : item_at m.funcs b.number ≡ Some function
@@ -49,6 +50,7 @@ pub record HasLocals (m : Module) (found : Ids) (a : Around) (b : FunctionBody) 
   pub ids : local_ids m.locals local ≡ map (naming found b.number Locals) (kept_numbers (length local.args.items) (keys_of found a (length local.args.items) x))
   pub numbers : (n : ℕ) → (n < length local.args.items) ⊎ (is_used (normal_ops (block_pick a) (text_of x)) n ≡ true)
       → slice_get (local_ids m.locals local) (new_number (length local.args.items) (keys_of found a (length local.args.items) x) n) ≡ Some (naming found b.number Locals n)
+  pub inside : (id : ℕ) → Contains (named_locals (own_operators local)) id → id < length m.locals
 
 -- so it is of each body of the file, in their order, with the function whose it is
 abbrev pub ReadBodiesHaveTheirLocals : Type 0 → Type 0

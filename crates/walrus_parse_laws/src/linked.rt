@@ -18,6 +18,7 @@ use walrus_named_bodies::file_bodies::items_into::laws::{
     filled_functions_stand, filled_modules_are_filed,
 };
 use walrus_named_bodies::file_bodies::laws::bodies_read_files;
+use walrus_pass_laws::refs::walks_name_used_locals;
 use wasm_import_links::laws::read_modules_are_full;
 use wasm_import_links::ruled_modules::laws::read_modules_are_ruled;
 
@@ -57,6 +58,8 @@ pub fn walks_of_read_bodies_name_locals<B>()
     ensures { WalksOfReadBodiesNameLocals B }
 {
     bodies_of_read_modules_have_their_locals::<B>();
+    functions_of_read_modules_are_whole::<B>();
+    walks_name_used_locals();
 }
 
 /// A module that was read is linked: each import names a live item that names it back, and each imported item a live import; functions are

@@ -18,12 +18,20 @@ use Rattle.wasm_references.specs.wasm_operators.wasm_ref_types.declared.value.Va
 use Rattle.wasm_references.specs.wasm_operators.Names.{Name, index_names, heap_names, value_names, block_names, clause_names, label_name, item_names, operator_names}
 use Rattle.walrus_meaning.specs.walrus_local_function.walrus_body_locals.wasm_normal_form.Locals.{Key, key_cmp, is_less, insert_key, in_order, numbered}
 use Rattle.walrus_meaning.specs.walrus_local_function.walrus_body_locals.wasm_normal_form.Bodies.{local_in}
+use Rattle.wasm_references.specs.wasm_body_grammar.Rules.{space_of}
+use Rattle.wasm_formats.specs.declared.fault.Space.TheVariants as spaces
 use Rattle.walrus_walks.specs.walrus_forms.declared.value.ValType.{ValType}
 use Rattle.walrus_walks.specs.walrus_instr.walrus_items.declared.local.Local.{Local}
+use Rattle.walrus_walks.specs.walrus_instr.declared.seq.InstrSeq.{InstrSeq}
+use Rattle.walrus_builder.specs.Functions.{seqs_of}
+use Rattle.walrus_roots.specs.Items.{item}
+use Rattle.walrus_roots.specs.declared.item.Item.{Item as ModuleItem}
 use Rattle.walrus_meaning.specs.walrus_local_function.declared.local_function.LocalFunction.{LocalFunction}
 use Rattle.walrus_meaning.specs.Bodies.{has_number, named_locals, own_body, own_operators, used_locals}
-use Rattle.walrus_pass_laws.specs.Locals.{UsedLocalsAreDeclared, type_of_local}
-use Rattle.walrus_pass_laws.proofs.Sets.{In, in_of, contains_of, in_map, map_in, in_flat, flat_in}
+use Rattle.walrus_pass_laws.specs.Bodies.{WalksNameItems, body_names, named_item, parts_of}
+use Rattle.walrus_pass_laws.specs.Instrs.{of_items, unlabelled}
+use Rattle.walrus_pass_laws.specs.Locals.{UsedLocalsAreDeclared, WalksNameUsedLocals, type_of_local}
+use Rattle.walrus_pass_laws.proofs.Sets.{In, in_of, contains_of, in_cases, in_map, map_in, in_flat, flat_in}
 
 -- ---- the locals among the names of an operator
 
@@ -275,3 +283,47 @@ locals_declared locals local ty = (
   λ c. declared_from locals local ty (in_of (own_body locals local).locals ty c),
   λ h. contains_of (own_body locals local).locals ty (declared_to locals local ty h.0 h.1 h.2 h.3),
 )
+
+-- ---- locals that a walk names
+
+-- the name of an item that is a local
+local_named : (s : Space) (k id : ℕ) → item (space_of s) k ≡ item spaces.Local id → ◌≡◌ {A = Name} (s, k) (Locals, id)
+local_named Locals k id e = ap (λ (x : ModuleItem). local_name x.id) e
+local_named Types k id e = absurd (let other : spaces.«Type» ≡ spaces.Local = ap (λ (x : ModuleItem). x.space) e in cc)
+local_named Functions k id e = absurd (let other : spaces.Function ≡ spaces.Local = ap (λ (x : ModuleItem). x.space) e in cc)
+local_named Tables k id e = absurd (let other : spaces.Table ≡ spaces.Local = ap (λ (x : ModuleItem). x.space) e in cc)
+local_named Memories k id e = absurd (let other : spaces.Memory ≡ spaces.Local = ap (λ (x : ModuleItem). x.space) e in cc)
+local_named Tags k id e = absurd (let other : spaces.Tag ≡ spaces.Local = ap (λ (x : ModuleItem). x.space) e in cc)
+local_named Globals k id e = absurd (let other : spaces.Global ≡ spaces.Local = ap (λ (x : ModuleItem). x.space) e in cc)
+local_named ElementSegments k id e = absurd (let other : spaces.Element ≡ spaces.Local = ap (λ (x : ModuleItem). x.space) e in cc)
+local_named DataSegments k id e = absurd (let other : spaces.Data ≡ spaces.Local = ap (λ (x : ModuleItem). x.space) e in cc)
+local_named Labels k id e = absurd (let other : spaces.Label ≡ spaces.Local = ap (λ (x : ModuleItem). x.space) e in cc)
+
+not_label : (s : Space) (k id : ℕ) → In (of_items s k) (Locals, id) → ◌≡◌ {A = Name} (s, k) (Locals, id)
+not_label Labels k id h = absurd h
+not_label Locals k id (inl e) = e
+not_label Locals k id (inr h) = absurd h
+not_label Types k id h = absurd (one_none Types k id refl h)
+not_label Functions k id h = absurd (one_none Functions k id refl h)
+not_label Tables k id h = absurd (one_none Tables k id refl h)
+not_label Memories k id h = absurd (one_none Memories k id refl h)
+not_label Tags k id h = absurd (one_none Tags k id refl h)
+not_label Globals k id h = absurd (one_none Globals k id refl h)
+not_label ElementSegments k id h = absurd (one_none ElementSegments k id refl h)
+not_label DataSegments k id h = absurd (one_none DataSegments k id refl h)
+
+labelled : (names : List Name) (id : ℕ) → In (unlabelled names) (Locals, id) → In names (Locals, id)
+labelled names id h =
+    let r = in_flat (λ (n : Name). of_items n.0 n.1) names (Locals, id) h in
+    subst (In names) (not_label r.0.0 r.0.1 id r.2) r.1
+
+pub locals_walked : WalksNameItems → WalksNameUsedLocals
+locals_walked walks local tree id c =
+    let b : List InstrSeq = seqs_of local.builder in
+    let named = in_of (map named_item (unlabelled (body_names b))) (item spaces.Local id) ((walks b tree (item spaces.Local id)).0 c) in
+    let r = in_map named_item (unlabelled (body_names b)) (item spaces.Local id) named in
+    let has : In (body_names b) (Locals, id) = labelled (body_names b) id (subst (In (unlabelled (body_names b))) (local_named r.0.0 r.0.1 id r.2) r.1) in
+    contains_of (named_locals (own_operators local)) id (elim (in_cases (names_of (own_operators local)) (flat_map block_names (parts_of b)) (Locals, id) has) as (λ _. In (named_locals (own_operators local)) id) [
+      | inl own ↦ named_from (own_operators local) id own
+      | inr part ↦ absurd (let t = in_flat block_names (parts_of b) (Locals, id) part in block_none t.0 id t.2)
+    ])

@@ -3,7 +3,7 @@
 ghost use Rattle.walrus_pass_laws.specs.Bodies.{BodiesNameWhatIsTold, WalksNameItems};
 ghost use Rattle.walrus_pass_laws.specs.Instrs.{InstrsNameWhatIsTold};
 ghost use Rattle.walrus_pass_laws.specs.Items.{ItemsNameWhatIsMeant};
-ghost use Rattle.walrus_pass_laws.specs.Locals.{UsedLocalsAreDeclared};
+ghost use Rattle.walrus_pass_laws.specs.Locals.{UsedLocalsAreDeclared, WalksNameUsedLocals};
 ghost use Rattle.walrus_pass_laws.specs.Plain.{PlainHaveOperators, PlainNameWhatIsTold};
 
 use walrus_meaning::names_are_told;
@@ -62,3 +62,10 @@ pub fn walks_name_items()
 pub fn used_locals_are_declared()
     ensures { UsedLocalsAreDeclared }
 {}
+
+/// The locals that the walk of a body names, whose sequences form a tree, are named by its operators.
+pub fn walks_name_used_locals()
+    ensures { WalksNameUsedLocals }
+{
+    walks_name_items();
+}

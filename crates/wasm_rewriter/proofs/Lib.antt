@@ -1,2 +1,3 @@
+pub mod MadeLemmas
 pub mod RefusalLemmas
 pub mod RunLemmas

@@ -8,11 +8,12 @@ use Rattle.wasm_rewriter.specs.declared.fault.Fault.TheVariants as faults
 use Rattle.wasm_rewriter.specs.declared.options.Options.{Options}
 use Rattle.wasm_rewriter.specs.declared.running.Summary.{Summary}
 use Rattle.wasm_rewriter.specs.Faults.{fault_of}
-use Rattle.wasm_rewriter.specs.Rewrites.{IsRefused, IsRewritten}
+use Rattle.wasm_rewriter.specs.Made.{IsRewritten}
+use Rattle.wasm_rewriter.specs.Rewrites.{IsRefused}
 use Rattle.wasm_rewriter.specs.Run.{Device, Writes, Runs, pairs_of, tells_of_bytes, tells_of_device}
 
 pub written_runs : (o : Options) (source sink places : Device) (input bytes : List ℕ) (pairs : Option (List (ℕ × ℕ))) (answer : Result Summary Fault)
-    → IsInput source.before source.after input → IsRewritten o input pairs → Writes bytes (pairs_of pairs) sink places answer → Runs o source sink places answer
+    → IsInput source.before source.after input → IsRewritten o input bytes pairs → Writes bytes (pairs_of pairs) sink places answer → Runs o source sink places answer
 written_runs o source sink places input bytes pairs (Ok summary) i r w = record { input = input; bytes = bytes; pairs = pairs; is_input = i; rewritten = r; written = w }
 written_runs o source sink places input bytes pairs (Err (faults.WriterFault n)) i r w = record { input = input; bytes = bytes; pairs = pairs; is_input = i; rewritten = r; written = w }
 written_runs o source sink places input bytes pairs (Err (faults.PlacesFault n)) i r w = record { input = input; bytes = bytes; pairs = pairs; is_input = i; rewritten = r; written = w }

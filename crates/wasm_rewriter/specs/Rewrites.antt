@@ -1,6 +1,5 @@
 -- What is said of a rewriting: which inputs are accepted, and why others are refused.
-use Rattle.std.specs.Prelude.{ℕ, ◌≡◌, ◌⊎◌, true, false, List, Option}
-use Rattle.std.specs.Option.{is_some}
+use Rattle.std.specs.Prelude.{ℕ, ◌≡◌, ◌⊎◌, true, false, List}
 use Rattle.walrus_config.specs.Config.{default_config}
 use Rattle.walrus_config.specs.declared.config.ModuleConfig.{ModuleConfig}
 use Rattle.walrus_errors.specs.declared.error.ModuleError.{ModuleError}
@@ -39,11 +38,6 @@ config_of o = record default_config {
 -- the input reads as a module
 abbrev pub IsAccepted : Options → List ℕ → Type 0
 IsAccepted o input = DoesRead (config_of o) input
-
--- it does, and pairs of places are there where they are asked for
-pub record IsRewritten (o : Options) (input : List ℕ) (pairs : Option (List (ℕ × ℕ))) : Type 0 where
-  pub reads : IsAccepted o input
-  pub asked : is_some pairs ≡ o.places
 
 -- reading refuses it so
 pub record IsUnread (o : Options) (input : List ℕ) (fault : Fault) : Type 0 where

@@ -7,7 +7,8 @@ use Rattle.wasm_rewriter.specs.declared.fault.Fault.{Fault}
 use Rattle.wasm_rewriter.specs.declared.fault.Fault.TheVariants as faults
 use Rattle.wasm_rewriter.specs.declared.options.Options.{Options}
 use Rattle.wasm_rewriter.specs.declared.running.Summary.{Summary}
-use Rattle.wasm_rewriter.specs.Rewrites.{IsRefused, IsRewritten}
+use Rattle.wasm_rewriter.specs.Made.{IsRewritten}
+use Rattle.wasm_rewriter.specs.Rewrites.{IsRefused}
 
 -- the pairs of places that there are
 abbrev pub pairs_of : Option (List (ℕ × ℕ)) → List (ℕ × ℕ)
@@ -53,7 +54,7 @@ pub record RewritesInput (o : Options) (source sink places : Device) (answer : R
   pub bytes : List ℕ
   pub pairs : Option (List (ℕ × ℕ))
   pub is_input : IsInput source.before source.after input
-  pub rewritten : IsRewritten o input pairs
+  pub rewritten : IsRewritten o input bytes pairs
   pub written : Writes bytes (pairs_of pairs) sink places answer
 
 -- an input was read, and refused

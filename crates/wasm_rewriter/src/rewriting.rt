@@ -1,7 +1,9 @@
 // Rewriting a module, from bytes to bytes.
 ghost use Rattle.std.specs.Prelude.{◌≡◌, ◌<◌, ◌≤◌, ◌^◌, ◌↔◌, length, IfErr, IfOk, IfSome, IsErrOf, OnOk, vec_items, vec_len};
 ghost use Rattle.std.specs.Option.{is_some, option_map};
-ghost use Rattle.wasm_rewriter.specs.Rewrites.{IsAccepted, IsRefused, IsRewritten, IsUnread, MayBeRefused, config_of as flags_of};
+ghost use Rattle.walrus_parse.specs.Parsed.{IsRead};
+ghost use Rattle.wasm_rewriter.specs.Made.{IsRewritten, Keeps, WritesOut, WritesWhatIsKept, if_asked};
+ghost use Rattle.wasm_rewriter.specs.Rewrites.{IsAccepted, IsRefused, IsUnread, MayBeRefused, config_of as flags_of};
 
 use crate::faults::{fault_of, late_fault};
 use crate::none::NoSection;
@@ -60,7 +62,8 @@ fn config_of(options: &Options) -> ModuleConfig
 
 // The module that the bytes spell.
 fn read(alloc: Global, bytes: &[u8], options: &Options) -> Result<Module<NoSection>, Fault>
-    ensures read { OnOk result (IsAccepted options.now bytes.now) }
+    ensures accepted { OnOk result (IsAccepted options.now bytes.now) }
+    ensures read { IfOk result (λ input. IsRead (flags_of options.now) bytes.now input) }
     ensures refused { IfErr result (λ fault. IsUnread options.now bytes.now fault) }
 {
     match config_of(options).parse(alloc, bytes) {
@@ -69,23 +72,42 @@ fn read(alloc: Global, bytes: &[u8], options: &Options) -> Result<Module<NoSecti
     }
 }
 
-// Drops of the module what isn't kept, and writes the rest.
-fn write_kept(alloc: Global, input: &mut Module<NoSection>) -> Result<Emitted, Fault>
-    ensures { IfErr result (λ fault. MayBeRefused fault) }
+// Drops of the module what isn't kept.
+fn keep(alloc: Global, input: &mut Module<NoSection>) -> Result<(), Fault>
+    ensures kept { OnOk result (Keeps input.old input.new) }
+    ensures refused { IfErr result (λ fault. MayBeRefused fault) }
 {
-    if let Err(error) = gc::run(alloc, input) {
-        return Err(late_fault(error));
+    match gc::run_from_roots(alloc, input, &[]) {
+        Ok(()) => Ok(()),
+        Err(error) => Err(late_fault(error)),
     }
+}
+
+// Writes the module.
+fn write(alloc: Global, input: &mut Module<NoSection>) -> Result<Emitted, Fault>
+    ensures written { IfOk result (λ emitted. WritesOut input.old input.new emitted) }
+    ensures refused { IfErr result (λ fault. MayBeRefused fault) }
+{
     match emit_sound(alloc, input) {
         Ok(emitted) => Ok(emitted),
         Err(error) => Err(late_fault(error)),
     }
 }
 
+// Drops of the module what isn't kept, and writes the rest.
+fn write_kept(alloc: Global, input: &mut Module<NoSection>) -> Result<Emitted, Fault>
+    ensures written { IfOk result (λ emitted. WritesWhatIsKept input.old input.new emitted) }
+    ensures refused { IfErr result (λ fault. MayBeRefused fault) }
+{
+    keep(alloc, input)?;
+    write(alloc, input)
+}
+
 // What was written, with the pairs of places where they are asked for. Each pair has a byte of its own in a file that is no longer than
 // an input may be, so that more pairs never come.
 fn with_places(emitted: Emitted, places: bool) -> Result<Rewritten, Fault>
-    ensures asked { IfOk result (λ out. is_some (option_map vec_items out.places) ≡ places) }
+    ensures bytes { IfOk result (λ out. out.bytes.items ≡ emitted.bytes.items) }
+    ensures pairs { IfOk result (λ out. option_map vec_items out.places ≡ if_asked places emitted.locations.items) }
     ensures few { IfOk result (λ out. IfSome out.places (λ pairs. vec_len pairs ≤ 2 ^ 30)) }
     ensures refused { IfErr result (λ fault. MayBeRefused fault) }
 {
@@ -109,7 +131,7 @@ fn with_places(emitted: Emitted, places: bool) -> Result<Rewritten, Fault>
 /// `InputTooLong` past 2^30 bytes; else the first fault of the file, at its place; `OutputLimit` where the output would pass a limit; `Memory`
 /// where a growth was refused, in place of what would come later, once the length and the header were found right.
 pub fn rewrite(alloc: Global, bytes: &[u8], options: &Options) -> Result<Rewritten, Fault>
-    ensures rewritten { IfOk result (λ out. IsRewritten options.now bytes.now (option_map vec_items out.places)) }
+    ensures rewritten { IfOk result (λ out. IsRewritten options.now bytes.now out.bytes.items (option_map vec_items out.places)) }
     ensures refused { IfErr result (λ fault. IsRefused options.now bytes.now fault) }
     ensures too_long { IsErrOf result Fault.InputTooLong ↔ (2 ^ 30 < length bytes.now) }
     // what reads is refused for want of memory or for the output's limits alone

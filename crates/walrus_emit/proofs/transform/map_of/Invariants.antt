@@ -1,5 +1,5 @@
 use Rattle.std.specs.Prelude.{◌≡◌, ◌++◌, drop}
-use Rattle.walrus_emit.specs.Places.{all_placed}
+use Rattle.walrus_emit.specs.Pairs.{all_placed}
 use Rattle.walrus_emit.proofs.transform.map_of.Given as goal
 
 abbrev pub invariant-loop-at : goal.invariant-loop-at
