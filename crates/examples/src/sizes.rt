@@ -89,7 +89,14 @@ fn add_functions(
     for (id, range) in ranges {
         let bytes = range.end.saturating_sub(range.start);
         let operators = operators_of(alloc, &module.funcs, *id)?;
-        add_line(alloc, lines, module, Item::new(Space::Function, *id), bytes, operators)?;
+        add_line(
+            alloc,
+            lines,
+            module,
+            Item::new(Space::Function, *id),
+            bytes,
+            operators,
+        )?;
     }
     Ok(())
 }

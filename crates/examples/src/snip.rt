@@ -120,7 +120,9 @@ fn snip_bytes(
 fn tell(rt: &HostRuntime, read: usize, snipped: &Snipped) -> io::Result<()> {
     println!(rt;
         "functions: {}, now {}; bytes: {read}, now {}",
-        snipped.before, snipped.after, snipped.bytes.len()
+        snipped.before,
+        snipped.after,
+        snipped.bytes.len()
     )
 }
 

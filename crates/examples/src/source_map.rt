@@ -44,7 +44,11 @@ fn moved(transform: &CodeTransform, start: usize, segment: &Segment) -> Option<S
 }
 
 // The segments whose operators are still there.
-fn kept(alloc: Global, written: &Written, segments: &[Segment]) -> Result<Vec<Segment>, AllocError> {
+fn kept(
+    alloc: Global,
+    written: &Written,
+    segments: &[Segment],
+) -> Result<Vec<Segment>, AllocError> {
     let mut kept: Vec<Segment> = Vec::new(alloc);
     for segment in segments {
         if let Some(segment) = moved(&written.transform, written.start, segment) {

@@ -2,9 +2,7 @@
 
 use program_parts::{Failure, read_file, write_file};
 use std::alloc::Global;
-use walrus::{
-    DeleteNamed, EmitWasm, FromBuffer, Module, ModuleConfig, ModuleCustomSections, Result,
-};
+use walrus::{EmitWasm, FromBuffer, Module, ModuleConfig, ModuleCustomSections, Result, Retains};
 
 const USAGE: &str = "examples strip IN OUT [SECTION]..  (no SECTION: all custom sections go)";
 
@@ -23,20 +21,9 @@ fn goes(drops: &[String], name: &str) -> bool {
     drops.is_empty() || is_named(drops, name)
 }
 
-// Drops the sections of these names.
-fn drop_named(customs: &mut ModuleCustomSections, drops: &[String]) {
-    for name in drops {
-        customs.delete_named(name.as_str());
-    }
-}
-
 // Drops the sections of these names, or all.
-fn drop_sections(alloc: Global, customs: &mut ModuleCustomSections, drops: &[String]) {
-    if drops.is_empty() {
-        *customs = ModuleCustomSections::new(alloc);
-    } else {
-        drop_named(customs, drops);
-    }
+fn drop_sections(customs: &mut ModuleCustomSections, drops: &[String]) {
+    customs.retain(|name| !goes(drops, name));
 }
 
 // The flags of a module without the sections of names and producers, where these go.
@@ -51,7 +38,7 @@ fn config_of(drops: &[String]) -> ModuleConfig {
 fn stripped(alloc: Global, bytes: &[u8], drops: &[String]) -> Result<Vec<u8>> {
     let config = config_of(drops);
     let mut module: Module = Module::from_buffer_with_config(alloc, bytes, &config)?;
-    drop_sections(alloc, &mut module.customs, drops);
+    drop_sections(&mut module.customs, drops);
     module.emit_wasm(alloc)
 }
 

@@ -43,12 +43,7 @@ fn line_of(alloc: Global, module: &Module, item: Item) -> Result<String, AllocEr
 }
 
 // The lines of the chain that ends with the step of this position, the root last.
-fn chain(
-    alloc: Global,
-    module: &Module,
-    reached: &Reached,
-    at: usize,
-) -> Result<Vec<String>> {
+fn chain(alloc: Global, module: &Module, reached: &Reached, at: usize) -> Result<Vec<String>> {
     let mut lines = Vec::new(alloc);
     let mut next = at;
     for _ in 0..MOST {
