@@ -10,8 +10,10 @@
 #![tactic(auto)]
 
 mod count_calls;
+mod digits;
 mod functions;
 mod mappings;
+mod moved;
 mod reached;
 mod sizes;
 mod snip;
@@ -44,8 +46,10 @@ fn run(rt: &HostRuntime, words: &[String]) -> Result<(), Failure> {
 // The words of a line.
 fn words_in(alloc: Global, line: &str) -> Result<Vec<String>, AllocError> {
     let mut words = Vec::new(alloc);
-    for word in line.split_whitespace() {
-        words.push(String::from_str(alloc, word)?)?;
+    for word in line.split(' ') {
+        if !word.is_empty() {
+            words.push(String::from_str(alloc, word)?)?;
+        }
     }
     Ok(words)
 }

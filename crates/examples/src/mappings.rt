@@ -1,12 +1,8 @@
 //! The mappings of a source map (ECMA-426): lists of segments, each of 1, 4 or 5 numbers, written as differences from those of the
 //! segment before, in base 64 with variable length. Of a module there is one line, and the column is the offset in the file.
 
+use crate::digits::{NO_DIGITS, Part, digit_of, encode_number, signed, with_digit};
 use std::alloc::{AllocError, Global};
-
-const DIGITS: &[u8; 64] = b"ABCDEFGHIJKLMNOPQRSTUVWXYZabcdefghijklmnopqrstuvwxyz0123456789+/";
-
-// The most digits of a number.
-const MAX_DIGITS: usize = 13;
 
 /// A segment: offset, source, line, column, name, of which so many are written.
 #[derive(Clone, Copy)]
@@ -15,42 +11,6 @@ pub struct Segment {
     pub fields: [i64; 5],
     /// How many are written.
     pub count: usize,
-}
-
-// The value of a digit.
-fn digit_of(byte: u8) -> Option<u64> {
-    let found = DIGITS.iter().position(|digit| *digit == byte)?;
-    Some(found as u64)
-}
-
-// The number whose sign is the lowest bit.
-fn signed(number: u64) -> i64 {
-    let size = i64::try_from(number / 2).unwrap_or(0);
-    if number % 2 == 1 {
-        size.wrapping_neg()
-    } else {
-        size
-    }
-}
-
-// A number of a segment while it is read.
-#[derive(Clone, Copy)]
-struct Part {
-    number: u64,
-    scale: u64,
-}
-
-const NO_DIGITS: Part = Part {
-    number: 0,
-    scale: 1,
-};
-
-// The number with one more digit; `None` past 12 digits.
-fn with_digit(part: Part, digit: u64) -> Option<Part> {
-    let more = (digit % 32).checked_mul(part.scale)?;
-    let number = part.number.checked_add(more)?;
-    let scale = part.scale.checked_mul(32)?;
-    Some(Part { number, scale })
 }
 
 // Adds a difference to the next number of a segment; `None` past the last.
@@ -100,37 +60,6 @@ pub fn decode(alloc: Global, text: &str) -> Result<Option<Vec<Segment>>, AllocEr
         segments.push(segment)?;
     }
     Ok(Some(segments))
-}
-
-// The character of a digit.
-fn character(digit: u64) -> char {
-    match DIGITS.get(digit as usize) {
-        Some(byte) => char::from(*byte),
-        None => 'A',
-    }
-}
-
-// The number as it is written: its sign is the lowest bit.
-fn unsigned(number: i64) -> u64 {
-    let size = number.unsigned_abs().wrapping_mul(2);
-    if number < 0 {
-        size.wrapping_add(1)
-    } else {
-        size
-    }
-}
-
-fn encode_number(out: &mut String, number: i64) -> Result<(), AllocError> {
-    let mut left = unsigned(number);
-    for _ in 0..MAX_DIGITS {
-        let digit = left % 32;
-        left /= 32;
-        if left == 0 {
-            return out.push(character(digit));
-        }
-        out.push(character(digit + 32))?;
-    }
-    Ok(())
 }
 
 // The numbers of a segment, behind those of the one before.

@@ -7,8 +7,7 @@ use std::ops::Range;
 use walrus::ir::FunctionId;
 use walrus::passes::Item;
 use walrus::{
-    BodyError, EmitWasm, FromBuffer, FunctionKind, Labels, Module, ModuleError, ModuleFunctions,
-    Result, Space,
+    BodyError, EmitWasm, FromBuffer, FunctionKind, Labels, Module, ModuleFunctions, Result, Space,
 };
 
 const USAGE: &str = "examples sizes IN [COUNT]";
@@ -32,31 +31,21 @@ struct Listing {
     whole: usize,
 }
 
-// The refusal of a module whose body is refused so.
-fn refusal(error: BodyError) -> ModuleError {
-    match error {
-        BodyError::Memory => ModuleError::Memory,
-        _ => ModuleError::NoTree,
-    }
-}
-
 // The operators of a body, if there is one; `else` and `end` aren't counted.
-fn operators_in(alloc: Global, kind: &FunctionKind) -> Result<u64> {
-    let FunctionKind::Local(local) = kind else {
-        return Ok(0);
-    };
-    match local.size(alloc) {
-        Ok(size) => Ok(size),
-        Err(error) => Err(refusal(error)),
+fn operators_in(alloc: Global, kind: &FunctionKind) -> Result<u64, BodyError> {
+    match kind {
+        FunctionKind::Local(local) => local.size(alloc),
+        FunctionKind::Import(_) => Ok(0),
+        FunctionKind::Uninitialized(_) => Ok(0),
     }
 }
 
 // The operators of a function.
 fn operators_of(alloc: Global, funcs: &ModuleFunctions, id: FunctionId) -> Result<u64> {
-    if funcs.contains(id) {
-        return operators_in(alloc, &funcs.get(id).kind);
+    if !funcs.contains(id) {
+        return Ok(0);
     }
-    Ok(0)
+    Ok(operators_in(alloc, &funcs.get(id).kind)?)
 }
 
 // Adds a line for an item.
@@ -87,16 +76,10 @@ fn add_functions(
     ranges: &[(FunctionId, Range<usize>)],
 ) -> Result<()> {
     for (id, range) in ranges {
+        let item = Item::new(Space::Function, *id);
         let bytes = range.end.saturating_sub(range.start);
         let operators = operators_of(alloc, &module.funcs, *id)?;
-        add_line(
-            alloc,
-            lines,
-            module,
-            Item::new(Space::Function, *id),
-            bytes,
-            operators,
-        )?;
+        add_line(alloc, lines, module, item, bytes, operators)?;
     }
     Ok(())
 }
@@ -110,18 +93,14 @@ fn add_data(alloc: Global, lines: &mut Vec<Line>, module: &Module) -> Result<(),
     Ok(())
 }
 
-// Adds all lines, and gives the bytes of the whole.
-fn add_lines(alloc: Global, lines: &mut Vec<Line>, module: &mut Module) -> Result<usize> {
-    let (bytes, transform) = module.emit_wasm_with_transform(alloc)?;
-    add_functions(alloc, lines, &*module, transform.function_ranges.as_slice())?;
-    add_data(alloc, lines, &*module)?;
-    Ok(bytes.len())
-}
-
 // The lines of a module, by falling bytes.
 fn list(alloc: Global, module: &mut Module) -> Result<Listing> {
+    let (bytes, transform) = module.emit_wasm_with_transform(alloc)?;
+    let whole = bytes.len();
+    let ranges = transform.function_ranges.as_slice();
     let mut lines = Vec::new(alloc);
-    let whole = add_lines(alloc, &mut lines, module)?;
+    add_functions(alloc, &mut lines, &*module, ranges)?;
+    add_data(alloc, &mut lines, &*module)?;
     lines.sort_by_key(|line| usize::MAX - line.bytes)?;
     Ok(Listing { lines, whole })
 }
@@ -139,16 +118,11 @@ fn print_line(rt: &HostRuntime, line: &Line) -> io::Result<()> {
     )
 }
 
-fn print_lines(rt: &HostRuntime, lines: &[Line], count: usize) -> io::Result<()> {
-    for line in lines.iter().take(count) {
-        print_line(rt, line)?;
-    }
-    Ok(())
-}
-
 fn print(rt: &HostRuntime, listing: &Listing, count: usize) -> io::Result<()> {
     println!(rt; "    bytes  operators  what")?;
-    print_lines(rt, listing.lines.as_slice(), count)?;
+    for line in listing.lines.iter().take(count) {
+        print_line(rt, line)?;
+    }
     println!(rt; "{:>9}             all, as it is written", listing.whole)
 }
 

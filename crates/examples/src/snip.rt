@@ -83,7 +83,7 @@ fn snip_all(module: &mut Module, words: &[String]) -> std::result::Result<(), Fa
 // How many functions live.
 fn function_count(funcs: &ModuleFunctions) -> usize {
     let mut count: usize = 0;
-    for _ in funcs.ids() {
+    for _ in funcs.iter() {
         count = count.saturating_add(1);
     }
     count

@@ -1,68 +1,22 @@
 //! Lets a source map follow a module as it is written anew, or tells where each operator went.
 
-use crate::mappings::{Segment, decode, encode};
+use crate::mappings::decode;
+use crate::moved::followed;
 use program_parts::{Failure, read_file, write_file};
 use serde_json::Value;
 use std::alloc::{AllocError, Global};
-use walrus::ir::InstrLocId;
 use walrus::{
-    CodeTransform, EmitWasm, FromBuffer, Module, ModuleConfig, Places, Result, code_section_start,
+    CodeTransform, EmitWasm, FromBuffer, Module, ModuleConfig, Result, code_section_start,
 };
 
 const USAGE: &str = "examples source_map IN OUT [MAP NEWMAP]  (no MAP: prints pairs of offsets)";
 
-// A module as it is written, and where its operators went. Locations count from the start of the code that was read.
+// A module as it is written, where its operators went, and where its code began in the file that was read.
 #[derive(Drop)]
 struct Written {
     bytes: Vec<u8>,
     transform: CodeTransform,
     start: usize,
-}
-
-// The location of an offset in the file; none in front of the code.
-fn location_of(start: usize, old: i64) -> Option<u32> {
-    let offset = usize::try_from(old).ok()?;
-    let from_start = offset.checked_sub(start)?;
-    u32::try_from(from_start).ok()
-}
-
-// Where the operator at an offset went; nothing where it is gone.
-fn follow(transform: &CodeTransform, start: usize, old: i64) -> Option<i64> {
-    let location = location_of(start, old)?;
-    if location == u32::MAX {
-        return None;
-    }
-    let new = transform.get(InstrLocId::new(location))?;
-    i64::try_from(new).ok()
-}
-
-// The segment where its operator went.
-fn moved(transform: &CodeTransform, start: usize, segment: &Segment) -> Option<Segment> {
-    let mut segment = *segment;
-    segment.fields[0] = follow(transform, start, segment.fields[0])?;
-    Some(segment)
-}
-
-// The segments whose operators are still there.
-fn kept(
-    alloc: Global,
-    written: &Written,
-    segments: &[Segment],
-) -> Result<Vec<Segment>, AllocError> {
-    let mut kept: Vec<Segment> = Vec::new(alloc);
-    for segment in segments {
-        if let Some(segment) = moved(&written.transform, written.start, segment) {
-            kept.push(segment)?;
-        }
-    }
-    Ok(kept)
-}
-
-// The text of the segments that are kept, by where they are.
-fn followed(alloc: Global, written: &Written, segments: &[Segment]) -> Result<String, AllocError> {
-    let mut kept = kept(alloc, written, segments)?;
-    kept.sort_by_key(|segment| segment.fields[0])?;
-    encode(alloc, kept.as_slice())
 }
 
 // The mappings of a source map.
@@ -82,10 +36,11 @@ fn new_mappings(
     written: &Written,
     mappings: &str,
 ) -> std::result::Result<String, Failure> {
-    match decode(alloc, mappings)? {
-        Some(segments) => Ok(followed(alloc, written, segments.as_slice())?),
-        None => Err(Failure::Wrong("the mappings are malformed")),
-    }
+    let Some(segments) = decode(alloc, mappings)? else {
+        return Err(Failure::Wrong("the mappings are malformed"));
+    };
+    let segments = segments.as_slice();
+    Ok(followed(alloc, &written.transform, written.start, segments)?)
 }
 
 // The text with the new mappings. The rest stays as it is, since some readers want the fields in one order.
@@ -148,18 +103,28 @@ fn print_pairs(rt: &HostRuntime, written: &Written) -> std::result::Result<(), F
     Ok(())
 }
 
-// The module that these bytes spell, as it is written.
-fn written_of(alloc: Global, bytes: &[u8]) -> Result<Written> {
+// The flags under which operators can be followed.
+fn config() -> ModuleConfig {
     let mut config = ModuleConfig::new();
     config.preserve_code_transform = true;
-    let mut module: Module = Module::from_buffer_with_config(alloc, bytes, &config)?;
-    let (written, transform) = module.emit_wasm_with_transform(alloc)?;
-    let start = code_section_start(bytes).unwrap_or(0);
+    config
+}
+
+// A module as it is written, with where its code was read.
+fn write(alloc: Global, module: &mut Module, start: usize) -> Result<Written> {
+    let (bytes, transform) = module.emit_wasm_with_transform(alloc)?;
     Ok(Written {
-        bytes: written,
+        bytes,
         transform,
         start,
     })
+}
+
+// The module that these bytes spell, as it is written.
+fn written_of(alloc: Global, bytes: &[u8]) -> Result<Written> {
+    let start = code_section_start(bytes).unwrap_or(0);
+    let mut module: Module = Module::from_buffer_with_config(alloc, bytes, &config())?;
+    write(alloc, &mut module, start)
 }
 
 // Tells where the operators went.

@@ -1,4 +1,10 @@
 //! Drops custom sections of a module: those that are named, or all.
+//!
+//!     examples strip in.wasm out.wasm                   all that are read as raw ones, names and producers
+//!     examples strip in.wasm out.wasm name build        names, and the sections called `build`
+//!
+//! Sections called `name` and `producers` are no raw ones, but what flags say of writing: these have to be set before a module is read. A
+//! `producers` with this tool's entry is written, unless that goes. As in each writing, sections whose names begin with `.debug` go.
 
 use program_parts::{Failure, read_file, write_file};
 use std::alloc::Global;

@@ -82,10 +82,11 @@ fn space_of(word: &str) -> Option<Space> {
 }
 
 // The item of this number in the space that the word names.
-fn numbered(space: &str, number: &str) -> Option<Item> {
-    let space = space_of(space)?;
-    let id = number.parse::<u32>().ok()?;
-    Some(Item { space, id })
+fn numbered(space: &str, number: &str) -> std::result::Result<Item, Failure> {
+    match (space_of(space), number.parse::<u32>()) {
+        (Some(space), Ok(id)) => Ok(Item { space, id }),
+        _ => Err(Failure::Words(USAGE)),
+    }
 }
 
 // The function that a word names.
@@ -100,10 +101,7 @@ fn function_of(module: &Module, word: &String) -> std::result::Result<Item, Fail
 fn item_of(module: &Module, words: &[String]) -> std::result::Result<Item, Failure> {
     match words {
         [name] => function_of(module, name),
-        [space, number] => match numbered(space.as_str(), number.as_str()) {
-            Some(item) => Ok(item),
-            None => Err(Failure::Words(USAGE)),
-        },
+        [space, number] => numbered(space.as_str(), number.as_str()),
         _ => Err(Failure::Words(USAGE)),
     }
 }
@@ -148,6 +146,5 @@ pub fn run(rt: &HostRuntime, words: &[String]) -> std::result::Result<(), Failur
     };
     let bytes = read_file(rt, from.as_str())?;
     let lines = reasons_in(rt.alloc(), bytes.as_slice(), rest)?;
-    print_lines(rt, lines.as_slice())?;
-    Ok(())
+    Ok(print_lines(rt, lines.as_slice())?)
 }
