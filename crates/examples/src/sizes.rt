@@ -7,7 +7,8 @@ use std::ops::Range;
 use walrus::ir::FunctionId;
 use walrus::passes::Item;
 use walrus::{
-    BodyError, EmitWasm, FromBuffer, FunctionKind, Labels, Module, ModuleFunctions, Result, Space,
+    BodyError, EmitWasm, FromBuffer, FunctionKind, Labels, Module, ModuleError, ModuleFunctions,
+    Result, Space,
 };
 
 const USAGE: &str = "examples sizes IN [COUNT]";
@@ -31,21 +32,19 @@ struct Listing {
     whole: usize,
 }
 
-// The operators of a body, if there is one; `else` and `end` aren't counted.
-fn operators_in(alloc: Global, kind: &FunctionKind) -> Result<u64, BodyError> {
-    match kind {
-        FunctionKind::Local(local) => local.size(alloc),
-        FunctionKind::Import(_) => Ok(0),
-        FunctionKind::Uninitialized(_) => Ok(0),
-    }
-}
-
-// The operators of a function.
+// The operators of a function; `else` and `end` aren't counted.
 fn operators_of(alloc: Global, funcs: &ModuleFunctions, id: FunctionId) -> Result<u64> {
     if !funcs.contains(id) {
         return Ok(0);
     }
-    Ok(operators_in(alloc, &funcs.get(id).kind)?)
+    let FunctionKind::Local(local) = &funcs.get(id).kind else {
+        return Ok(0);
+    };
+    match local.size(alloc) {
+        Ok(size) => Ok(size),
+        Err(BodyError::Memory) => Err(ModuleError::Memory),
+        Err(_) => Err(ModuleError::NoTree),
+    }
 }
 
 // Adds a line for an item.
