@@ -45,9 +45,9 @@ impl Reached {
         self.positions.get(&key(item)).copied()
     }
 
-    fn push(&mut self, step: Step) -> Result<()> {
-        self.positions.insert(key(step.item), self.steps.len())?;
-        self.steps.push(step)?;
+    fn push(&mut self, item: Item, root: Option<Reason>, by: usize) -> Result<()> {
+        self.positions.insert(key(item), self.steps.len())?;
+        self.steps.push(Step { item, root, by })?;
         Ok(())
     }
 
@@ -56,7 +56,7 @@ impl Reached {
         if self.position(item).is_some() {
             return Ok(());
         }
-        self.push(Step { item, root, by })
+        self.push(item, root, by)
     }
 }
 
