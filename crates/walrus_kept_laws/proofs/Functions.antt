@@ -56,7 +56,7 @@ module _ (named : NamesAreRenamed) (vl wl : ℕ → Option ValType) (number : �
       ap (λ (l : List Item). l ++ names_items vl names) (name_same x.0 x.1 (λ e. h x.1 (inl (let p : ◌≡◌ {A = Name} x (Locals, x.1) = λ i. (e i, x.1) in p))))
       ∙ ap (λ (l : List Item). name_items wl x.0 (r x.0 x.1) ++ l) (names_same names (λ n i. h n (inr i)))
 
-  ops_same : (ops : List Placed) → ((n : ℕ) → In (flat_map (λ (o : Placed). operator_names o.op) ops) (Locals, n) → wl (number n) ≡ vl n)
+  pub ops_same : (ops : List Placed) → ((n : ℕ) → In (flat_map (λ (o : Placed). operator_names o.op) ops) (Locals, n) → wl (number n) ≡ vl n)
       → flat_map (λ (o : Placed). names_items vl (operator_names o.op)) ops ≡ flat_map (λ (o : Placed). names_items wl (operator_names o.op)) (map (renamed_placed r) ops)
   ops_same [] h = refl
   ops_same (o ∷ ops) h =
