@@ -1,5 +1,5 @@
 -- Lemmas: what the body of a function that was read names, by ids and by places.
-use Rattle.std.specs.Prelude.{ℕ, ◌≡◌, ◌⊎◌, ◌<◌, List, [], ◌∷◌, ◌++◌, map, Option, Some, None, Ok, slice_get, refl}
+use Rattle.std.specs.Prelude.{ℕ, ◌≡◌, List, [], ◌∷◌, ◌++◌, map, Option, refl}
 use Rattle.std.specs.List.{flat_map}
 use Rattle.std.proofs.Common.{ap, sym, ◌∙◌, subst, inl, inr}
 use Rattle.walrus_arena.specs.Arena.{Arena}
@@ -29,7 +29,7 @@ use Rattle.walrus_instr.specs.declared.instr.Instr.TheVariants as instrs
 use Rattle.walrus_instr.specs.declared.seq.InstrSeq.{InstrSeq}
 use Rattle.walrus_builder.specs.Built.{Seq, seq_of}
 use Rattle.walrus_builder.specs.Functions.{seqs_of}
-use Rattle.walrus_walks.specs.Tree.{IsNested, children}
+use Rattle.walrus_walks.specs.Tree.{children}
 use Rattle.walrus_tree.specs.Text.{End, operators}
 use Rattle.walrus_tree.specs.TextLaws.{TextIsPlain, TreesAreNested}
 use Rattle.walrus_tree.specs.Trees.{IsTree}
@@ -49,7 +49,7 @@ use Rattle.walrus_pass_laws.proofs.Sets.{In, in_cases, in_left}
 use Rattle.walrus_kept_laws.specs.Alike.{StandsFor}
 use Rattle.walrus_kept_laws.proofs.Functions.{ListsAlike, body_alike, ops_same}
 use Rattle.walrus_kept_laws.proofs.Handled.{BlocksAlike}
-use Rattle.walrus_kept_laws.proofs.Parts.{Back, Both, Forth, is_opened, its_own, line_ops, line_parts, ops_there, parts_there, stands_for, walked}
+use Rattle.walrus_kept_laws.proofs.Parts.{Back, Both, Forth, is_opened, its_own, line_ops, line_parts, stands_for, walked}
 use Rattle.walrus_kept_laws.proofs.Text.{Line, held, rest, seen_at}
 use Rattle.walrus_kept_laws.proofs.Turns.{SeesAlike, Typed, opens_typed, turns_typed}
 use Rattle.walrus_kept_laws.proofs.Walk.{body_parts, sent}
@@ -122,7 +122,7 @@ module _ (named : NamesAreRenamed) (plain : TextIsPlain) (nest : TreesAreNested)
       let lie = subst (λ (z : Seq). lies (meaning s) w (map seq_of b) [] 0 stands.ty (with 0 none) z.instrs z.end [] Ended stands.done) y.2 stands.enters.lie in
       let lines = rest b [] 0 y.0.instrs.items y.0.end [] Ended in
       let both : Both (BlocksAlike ids) (Typed k own_types ids t tags a s r h) plain features s b n.rank n.is_rank (λ around op i. run_none back features s around op i) a to codes place (opens_typed k own_types ids t tags a s r h) (turns_typed k own_types ids t tags a s r h)
-              stands.ty blocks.Empty lines [] w =
+      stands.ty blocks.Empty lines [] w =
       walked (BlocksAlike ids) (Typed k own_types ids t tags a s r h) plain features s b n.rank n.is_rank (λ around op i. run_none back features s around op i) a to codes place (opens_typed k own_types ids t tags a s r h) (turns_typed k own_types ids t tags a s r h)
       w [] 0 stands.ty blocks.Empty (with 0 none) y.0.instrs.items y.0.end [] Ended stands.done fits (λ (some : no_parts ≡ [] → ⊥). absurd (some refl)) (held b n.rank n.is_rank 0 y.0 n.ranked y.1) tt lie in
       let whole : operators b 0 ≡ lines = plain b [] 0 End y.0 n y.1 in
@@ -132,8 +132,8 @@ module _ (named : NamesAreRenamed) (plain : TextIsPlain) (nest : TreesAreNested)
       let ops_w : map (λ (o : Placed). to o.op) (flat w) ≡ map (λ (o : grammar.Placed). o.op) there = sym (ops_sent to place a codes (flat w)) ∙ ap (map (λ (o : grammar.Placed). o.op)) (sym is) in
       body_alike ids vl wl here there (parts_of b) (parts_in a [] there) (ops_same named vl wl number here locals) fixed
       (λ v i. ahead v (subst (λ (l : List Seen). Forth (BlocksAlike ids) (Own v) l (parts_in a [] there) v) ops_here
-          (subst (λ (l : List BlockType). Forth (BlocksAlike ids) (Own v) (line_ops b lines) l v) (sym parts_w)
-          (both.forth v (in_left (line_parts b lines) [] v (subst (λ (l : List BlockType). In l v) parts_here i))))))
+      (subst (λ (l : List BlockType). Forth (BlocksAlike ids) (Own v) (line_ops b lines) l v) (sym parts_w)
+      (both.forth v (in_left (line_parts b lines) [] v (subst (λ (l : List BlockType). In l v) parts_here i))))))
       (λ u i. behind lines u (subst (λ (l : List Seen). Back (BlocksAlike ids) (u ≡ blocks.Empty) l (line_parts b lines ++ []) u) ops_w (both.back u (subst (λ (l : List BlockType). In l u) parts_w i))) (sym parts_here))
     where
       ahead : (v : BlockType) → Forth (BlocksAlike ids) (Own v) (map (λ (o : grammar.Placed). o.op) here) (parts_in a [] there) v

@@ -10,7 +10,7 @@ use Rattle.walrus_forms.specs.Renaming.{renamed_kind}
 use Rattle.walrus_forms.specs.Same.{SameKindIsEquality, same_kind}
 use Rattle.walrus_forms.proofs.RenamingLemmas.{In, kinds-agree}
 use Rattle.walrus_types.specs.Items.{Item}
-use Rattle.walrus_types.specs.Table.{Table, found_type, latest_id, type_at}
+use Rattle.walrus_types.specs.Table.{Table, found_type, type_at}
 use Rattle.walrus_types.specs.TypeLaws.{FindsLatest, IsLatest}
 use Rattle.wasm_body_grammar.specs.Rules.{found_in, latest_from, leads, serves}
 use Rattle.wasm_merged_modules.specs.Merged.{AreNew}
@@ -37,11 +37,14 @@ module _ (test : ℕ → Kind → Bool) where
     where
       by : (r : ℕ) × (latest_from test (first + 1) (Some first) kinds ≡ Some r) × ((r ≡ first) ⊎ PassesAt (first + 1) kinds r)
           → (r : ℕ) × (latest_from test (first + 1) (Some f) kinds ≡ Some r) × ((r ≡ f) ⊎ PassesAt (first + 1) kinds r) → (b : Bool) → test first k ≡ b → (r : ℕ) × (latest_from test (first + 1) (if b then Some first else Some f) kinds ≡ Some r) × ((r ≡ f) ⊎ PassesAt first (k ∷ kinds) r)
-      by t u true e =
-          (t.0, t.1, elim t.2 as (λ _. (t.0 ≡ f) ⊎ PassesAt first (k ∷ kinds) t.0) [
-            | inl same ↦ inr (record { place = 0; kind = k; is = omega (arith, same); known = refl; passes = ap (λ (n : ℕ). test n k) same ∙ e })
-            | inr h ↦ inr (later first k kinds t.0 h)
-          ])
+      by t u true e = (
+        t.0,
+        t.1,
+        elim t.2 as (λ _. (t.0 ≡ f) ⊎ PassesAt first (k ∷ kinds) t.0) [
+          | inl same ↦ inr (record { place = 0; kind = k; is = omega (arith, same); known = refl; passes = ap (λ (n : ℕ). test n k) same ∙ e })
+          | inr h ↦ inr (later first k kinds t.0 h)
+        ],
+      )
       by t u false e = (u.0, u.1, elim u.2 as (λ _. (u.0 ≡ f) ⊎ PassesAt first (k ∷ kinds) u.0) [ inl same ↦ inl same | inr h ↦ inr (later first k kinds u.0 h) ])
 
   -- where one passes, the last that does is no earlier
@@ -92,12 +95,12 @@ new_apart there (k ∷ kinds) new i j kind lt le at_i at_j = elim (cases_lt (len
   | inl past ↦ (
       let many = length-append there (k ∷ []) in
       new_apart (there ++ k ∷ []) kinds new.2 i j kind lt (omega (arith, past, many)) (ap (λ (l : List Kind). slice_get l i) (one_on there k kinds) ∙ at_i) (ap (λ (l : List Kind). slice_get l j) (one_on there k kinds) ∙ at_j)
-  )
+      )
   | inr here ↦ (
       let same : length there ≡ j = omega (arith, le, here) in
       let is : k ≡ kind = same_Some k kind (sym (at_end there k kinds) ∙ ap (slice_get (there ++ k ∷ kinds)) same ∙ at_j) in
       new.1 i (sym (get_behind there (k ∷ kinds) i (omega (arith, lt, same))) ∙ at_i ∙ ap (λ (x : Kind). Some x) (sym is))
-  )
+      )
 ]
 
 not_both : (b : Bool) → b ≡ true → b ≡ false → ⊥
@@ -153,18 +156,21 @@ module _ (is : SameKindIsEquality) (finds : (test : ℕ × Item → Bool) (t : T
         let at_r : slice_get kinds r.0 ≡ Some at.kind = ap (slice_get kinds) place ∙ at.known in
         let at_kind : at.kind ≡ wanted = serves_wanted r.0 at.kind at_r at.passes in
         let known_r : slice_get kinds r.0 ≡ Some wanted = at_r ∙ ap (λ (x : Kind). Some x) at_kind in
-        let id_r = has_id r.0 wanted known_r in
-        (r.0, r.1, elim (cases_lt home.0 r.0) as (λ _. slice_get ids r.0 ≡ Some id) [
-          | inr past ↦ ap (slice_get ids) (let z : r.0 ≡ home.0 = (let le = r.2 in omega (arith, past, le)) in z) ∙ home.1
-          | inl less ↦ elim (cases_lt r.0 k) as (λ _. slice_get ids r.0 ≡ Some id) [
-            | inr behind ↦ absurd (apart home.0 r.0 wanted less behind known known_r)
-            | inl low ↦ (
-                let here : home.0 ≡ id = same_Some home.0 id (sym (fixed home.0 (omega (arith, less, low))) ∙ home.1) in
-                let later = stands r.0 r.0 (fixed r.0 low) in
-                let later_kind : later.0.kind ≡ wanted = same_Some later.0.kind wanted (sym later.2 ∙ known_r) in
-                let passes : same_kind later.0.kind wanted ≡ true = (is later.0.kind wanted).1 later_kind in
-                let not_so : same_kind later.0.kind wanted ≡ false = latest.latest r.0 later.0 (omega (arith, less, here)) later.1 in
-                absurd (not_both (same_kind later.0.kind wanted) passes not_so)
-            )
-          ]
-        ])
+        let id_r = has_id r.0 wanted known_r in (
+          r.0,
+          r.1,
+          elim (cases_lt home.0 r.0) as (λ _. slice_get ids r.0 ≡ Some id) [
+            | inr past ↦ ap (slice_get ids) (let z : r.0 ≡ home.0 = (let le = r.2 in omega (arith, past, le)) in z) ∙ home.1
+            | inl less ↦ elim (cases_lt r.0 k) as (λ _. slice_get ids r.0 ≡ Some id) [
+              | inr behind ↦ absurd (apart home.0 r.0 wanted less behind known known_r)
+              | inl low ↦ (
+                  let here : home.0 ≡ id = same_Some home.0 id (sym (fixed home.0 (omega (arith, less, low))) ∙ home.1) in
+                  let later = stands r.0 r.0 (fixed r.0 low) in
+                  let later_kind : later.0.kind ≡ wanted = same_Some later.0.kind wanted (sym later.2 ∙ known_r) in
+                  let passes : same_kind later.0.kind wanted ≡ true = (is later.0.kind wanted).1 later_kind in
+                  let not_so : same_kind later.0.kind wanted ≡ false = latest.latest r.0 later.0 (omega (arith, less, here)) later.1 in
+                  absurd (not_both (same_kind later.0.kind wanted) passes not_so)
+                  )
+            ]
+          ],
+        )

@@ -1,21 +1,19 @@
 -- Lemmas: what a function names, by ids and by places.
-use Rattle.std.specs.Prelude.{ℕ, zero, suc, ◌≡◌, ◌⊎◌, ◌<◌, Bool, true, List, [], ◌∷◌, ◌++◌, map, Contains, Option, Some, None, slice_get, slice_index_or, refl}
+use Rattle.std.specs.Prelude.{ℕ, ◌≡◌, List, [], ◌∷◌, ◌++◌, map, Option, refl}
 use Rattle.std.specs.List.{flat_map}
 use Rattle.std.proofs.Common.{ap, sym, ◌∙◌, subst, inl, inr}
-use Rattle.std.proofs.lemmas.Option.{none-some, same_Some}
 use Rattle.walrus_forms.specs.declared.value.ValType.{ValType}
-use Rattle.wasm_formats.specs.declared.fault.Space.TheVariants as spaces
 use Rattle.wasm_operators.specs.declared.block_type.BlockType.{BlockType}
 use Rattle.wasm_operators.specs.declared.block_type.BlockType.TheVariants as blocks
-use Rattle.wasm_operators.specs.Items.{Space, Types, Functions, Tables, Memories, Tags, Globals, ElementSegments, DataSegments, Locals, Labels, Item as Immediate, Block}
+use Rattle.wasm_operators.specs.Items.{Space, Types, Functions, Tables, Memories, Tags, Globals, ElementSegments, DataSegments, Locals, Labels, Item as Immediate}
 use Rattle.wasm_operators.specs.NameLaws.{NamesAreRenamed, renamed_name, same}
 use Rattle.wasm_operators.specs.Names.{Name, Renaming, block_names, item_names, operator_names, renamed_operator}
 use Rattle.wasm_operators.specs.Operators.{Seen}
 use Rattle.wasm_grammar.specs.Modules.{Item, Placed}
-use Rattle.wasm_references.specs.References.{body_items, item, local_items, name_items, names_items}
+use Rattle.wasm_references.specs.References.{body_items, local_items, name_items, names_items}
 use Rattle.wasm_ruled_renamed.specs.Bodies.{with_numbers}
 use Rattle.wasm_ruled_renamed.specs.Renamed.{renamed_placed}
-use Rattle.walrus_pass_laws.proofs.Sets.{In, in_cases, in_flat, in_left, in_map, in_right, flat_in, map_in}
+use Rattle.walrus_pass_laws.proofs.Sets.{In, in_cases, in_flat, in_left, in_map, in_right, flat_in}
 use Rattle.walrus_kept_laws.specs.Alike.{StandsFor}
 use Rattle.walrus_kept_laws.proofs.Handled.{BlocksAlike}
 use Rattle.walrus_kept_laws.proofs.Parts.{Back, Forth, IsOpened, is_opened, its_own, stands_for}

@@ -1,5 +1,5 @@
 -- Lemmas: references of modules that are alike, but for functions, the numbers of types and what tables and memories list themselves, stand for one another.
-use Rattle.std.specs.Prelude.{ℕ, zero, suc, ◌≡◌, ◌⊎◌, ◌+◌, ◌<◌, Bool, true, List, [], ◌∷◌, ◌++◌, length, map, take, drop, Option, Some, None, IsSome, MatchOption, Contains, slice_get, slice_index_or, refl}
+use Rattle.std.specs.Prelude.{ℕ, zero, suc, ◌≡◌, ◌+◌, Bool, List, [], ◌∷◌, ◌++◌, length, map, take, drop, Option, Some, None, MatchOption, Contains, slice_get, refl}
 use Rattle.std.specs.List.{AllZip, range_with_len}
 use Rattle.std.proofs.Common.{ap, sym, ◌∙◌, subst, arith, inl, inr}
 use Rattle.std.proofs.lemmas.Option.{none-some, same_Some}
@@ -104,7 +104,7 @@ placed_from before [] = tt
 placed_from before (x ∷ xs) = (
   at_end before x xs,
   subst (λ (n : ℕ). AllZip (AtPlace (before ++ x ∷ xs)) xs (range_with_len n (length xs))) (one_longer before x ∙ (let e : suc (length before) ≡ length before + 1 = omega arith in e))
-  (subst (λ (l : List ℕ). AllZip (AtPlace l) xs (range_with_len (length (before ++ x ∷ [])) (length xs))) (moved_on before x xs) (placed_from (before ++ x ∷ []) xs)),
+      (subst (λ (l : List ℕ). AllZip (AtPlace l) xs (range_with_len (length (before ++ x ∷ [])) (length xs))) (moved_on before x xs) (placed_from (before ++ x ∷ []) xs)),
 )
 
 pub placed : (ids : List ℕ) → AllZip (AtPlace ids) ids (range_with_len 0 (length ids))
@@ -170,10 +170,12 @@ module _ (m : Module) (fs : List (Option Function)) (ids : List ℕ) (count : �
           | inl c ↦ (z, h.kinds id group kind reached is z c, (b.0, kind, there, inl c))
           | inr c ↦ (
               let j = in_map (item spaces.«Type») group.1 z (in_of (map (item spaces.«Type») group.1) z c.1) in
-              let l = in_right_of (AtPlace ids) group.1 b.0.1 b.2.1 j.0 j.1 in
-              (item spaces.«Type» l.0, subst (λ (x : Item). StandsFor ids x (item spaces.«Type» l.0)) j.2 (typed j.0 l.0 l.2),
-              (b.0, kind, there, inr (ap (λ (g : TypeGroup). g.marked) (sym b.2.0) ∙ c.0, contains_of (map (item spaces.«Type») b.0.1) (item spaces.«Type» l.0) (map_in (item spaces.«Type») b.0.1 l.0 l.1))))
-          )
+              let l = in_right_of (AtPlace ids) group.1 b.0.1 b.2.1 j.0 j.1 in (
+                item spaces.«Type» l.0,
+                subst (λ (x : Item). StandsFor ids x (item spaces.«Type» l.0)) j.2 (typed j.0 l.0 l.2),
+                (b.0, kind, there, inr (ap (λ (g : TypeGroup). g.marked) (sym b.2.0) ∙ c.0, contains_of (map (item spaces.«Type») b.0.1) (item spaces.«Type» l.0) (map_in (item spaces.«Type») b.0.1 l.0 l.1))),
+              )
+              )
         ]
 
     type_back : (id n : ℕ) → AtPlace ids id n → Reached spaces.«Type» id → (u : Item) → TypeRefers by_places n u → (z : Item) × StandsFor ids z u × TypeRefers by_ids id z
@@ -190,10 +192,12 @@ module _ (m : Module) (fs : List (Option Function)) (ids : List ℕ) (count : �
           | inl c ↦ (u, h.kinds id a.0 kind reached here u c, (a.0, kind, here, inl c))
           | inr c ↦ (
               let j = in_map (item spaces.«Type») group.1 u (in_of (map (item spaces.«Type») group.1) u c.1) in
-              let l = in_left_of (AtPlace ids) a.0.1 group.1 a.2.1 j.0 j.1 in
-              (item spaces.«Type» l.0, subst (λ (x : Item). StandsFor ids (item spaces.«Type» l.0) x) j.2 (typed l.0 j.0 l.2),
-              (a.0, kind, here, inr (ap (λ (g : TypeGroup). g.marked) a.2.0 ∙ c.0, contains_of (map (item spaces.«Type») a.0.1) (item spaces.«Type» l.0) (map_in (item spaces.«Type») a.0.1 l.0 l.1))))
-          )
+              let l = in_left_of (AtPlace ids) a.0.1 group.1 a.2.1 j.0 j.1 in (
+                item spaces.«Type» l.0,
+                subst (λ (x : Item). StandsFor ids (item spaces.«Type» l.0) x) j.2 (typed l.0 j.0 l.2),
+                (a.0, kind, here, inr (ap (λ (g : TypeGroup). g.marked) a.2.0 ∙ c.0, contains_of (map (item spaces.«Type») a.0.1) (item spaces.«Type» l.0) (map_in (item spaces.«Type») a.0.1 l.0 l.1))),
+              )
+              )
         ]
 
     -- ---- segments of tables and memories

@@ -1,10 +1,10 @@
 -- Lemmas: what blocks and their handlers are given, in memory and by places.
-use Rattle.std.specs.Prelude.{ℕ, zero, suc, ◌≡◌, ◌⊎◌, ◌<◌, Bool, true, false, List, [], ◌∷◌, ◌++◌, map, filter_map, Option, Some, None, MatchOption, Result, Ok, Err, slice_get, slice_index_or, refl, if◌then◌else◌}
+use Rattle.std.specs.Prelude.{ℕ, ◌≡◌, ◌⊎◌, ◌<◌, Bool, true, false, List, [], ◌∷◌, ◌++◌, map, filter_map, Option, Some, None, MatchOption, Result, Ok, Err, slice_get, slice_index_or, refl, if◌then◌else◌}
 use Rattle.std.specs.List.{cons_option}
 use Rattle.std.specs.Option.{ok_or, option_and_then, option_map, option_to_list, unwrap_or}
 use Rattle.std.proofs.Common.{ap, sym, ◌∙◌, subst, inl, inr}
 use Rattle.std.proofs.lemmas.Option.{none-some, same_Some}
-use Rattle.walrus_arena.specs.Arena.{Arena, item_at}
+use Rattle.walrus_arena.specs.Arena.{Arena}
 use Rattle.walrus_forms.specs.declared.value.AbstractHeapType.{AbstractHeapType}
 use Rattle.walrus_forms.specs.declared.value.AbstractHeapType.TheVariants as into
 use Rattle.walrus_forms.specs.declared.value.HeapType.{HeapType}
@@ -36,7 +36,6 @@ use Rattle.wasm_ref_types.specs.declared.value.ValType.TheVariants as reads
 use Rattle.wasm_operators.specs.declared.block_type.BlockType.{BlockType}
 use Rattle.wasm_operators.specs.declared.block_type.BlockType.TheVariants as blocks
 use Rattle.wasm_operators.specs.declared.entry.Flow.{Flow}
-use Rattle.wasm_operators.specs.declared.entry.Flow.TheVariants as flows
 use Rattle.wasm_operators.specs.Items.{Types, Tags, Item, Names, Block}
 use Rattle.wasm_operators.specs.Names.{Renaming, renamed_block, renamed_heap, renamed_item, renamed_operator, renamed_value}
 use Rattle.wasm_operators.specs.Operators.{Seen, flow_of}
@@ -45,7 +44,7 @@ use Rattle.wasm_grammar.specs.States.{types_of}
 use Rattle.wasm_grammar.specs.TypeWords.{abstract_of, heap_of, value_of}
 use Rattle.wasm_body_grammar.specs.Rules.{Around, found_in, pick}
 use Rattle.walrus_module_items.specs.declared.tag.Tag.{Tag}
-use Rattle.wasm_references.specs.References.{item, value_items}
+use Rattle.wasm_references.specs.References.{item}
 use Rattle.wasm_part.specs.Seen.{form_results, given_to, handled, kind_params, kind_results, opened_with, results_of as results_there, tag_params as params_there}
 use Rattle.walrus_pairing.specs.declared.error.PairError.{PairError}
 use Rattle.walrus_pairing.specs.declared.error.PairError.TheVariants.{Unknown as unknown}
@@ -105,9 +104,10 @@ module _ (l : ℕ → Option ℕ) (r : Renaming) (k : ℕ) (named : (n id : ℕ)
       → (ok_or o (unknown words.«Type») >>= λ id. Ok (to id)) ≡ Ok ty → HeapAs h ty
   index_as n None e to name h is ty f = absurd cc
   index_as n (Some id) e to name h is ty f =
-      let same : to id ≡ ty = ok_is (to id) ty f in
-      (is ∙ ap (λ (m : ℕ). Some (to m)) (named n id e) ∙ ap (λ (x : HeapType). Some x) same,
-      λ j g. subst (λ (m : ℕ). m < k) (same_Some id j (sym (name id) ∙ ap heap_name same ∙ g)) (low n id e))
+      let same : to id ≡ ty = ok_is (to id) ty f in (
+        is ∙ ap (λ (m : ℕ). Some (to m)) (named n id e) ∙ ap (λ (x : HeapType). Some x) same,
+        λ j g. subst (λ (m : ℕ). m < k) (same_Some id j (sym (name id) ∙ ap heap_name same ∙ g)) (low n id e),
+      )
 
   heap_as : (h : ReadHeap) (ty : HeapType) → read_heap l h ≡ Ok ty → HeapAs h ty
   heap_as (Abstract false a) ty e = plain_as false a (read_abstract a) refl heaps.Abstract (λ x. refl) (λ x f. ap (option_map heaps.Abstract) f) ty e
@@ -124,9 +124,10 @@ module _ (l : ℕ → Option ℕ) (r : Renaming) (k : ℕ) (named : (n id : ℕ)
   ref_as nullable h (Err f) e ty g = absurd cc
   ref_as nullable h (Ok heap) e ty g =
       let same : values.Ref (record { nullable = nullable; heap_type = heap }) ≡ ty = ok_is (values.Ref (record { nullable = nullable; heap_type = heap })) ty g in
-      let one = heap_as h heap e in
-      (ap (λ (o : Option HeapType). option_map values.Ref (option_map (λ (x : HeapType). (let y : RefType = record { nullable = nullable; heap_type = x } in y)) o)) one.0 ∙ ap (λ (x : ValType). Some x) same,
-      λ j f. one.1 j (ap value_name same ∙ f))
+      let one = heap_as h heap e in (
+        ap (λ (o : Option HeapType). option_map values.Ref (option_map (λ (x : HeapType). (let y : RefType = record { nullable = nullable; heap_type = x } in y)) o)) one.0 ∙ ap (λ (x : ValType). Some x) same,
+        λ j f. one.1 j (ap value_name same ∙ f),
+      )
 
   pub value_as : (v : ReadValue) (ty : ValType) → read_value l v ≡ Ok ty → ValueAs v ty
   value_as reads.I32 ty e = (ap (λ (x : ValType). Some x) (ok_is values.I32 ty e), λ j f. absurd (none-some j (ap value_name (ok_is values.I32 ty e) ∙ f)))

@@ -1,5 +1,5 @@
 -- Lemmas: the types of a table, by their ids and by their places in what a module means.
-use Rattle.std.specs.Prelude.{ℕ, zero, suc, ◌≡◌, ◌⊎◌, ◌+◌, ◌<◌, ◌≤◌, Bool, true, false, List, [], ◌∷◌, ◌++◌, length, map, filter, Option, Some, None, Contains, IsSome, slice_get, slice_index_or, refl, if◌then◌else◌}
+use Rattle.std.specs.Prelude.{ℕ, zero, suc, ◌≡◌, ◌⊎◌, ◌+◌, Bool, true, false, List, [], ◌∷◌, ◌++◌, length, map, filter, Option, Some, None, slice_get, slice_index_or, refl, if◌then◌else◌}
 use Rattle.std.specs.List.{AllZip, flat_map}
 use Rattle.std.proofs.Common.{ap, sym, ◌∙◌, subst, arith, append-nil, inl, inr}
 use Rattle.std.proofs.lemmas.Option.{none-some, same_Some}
@@ -7,7 +7,7 @@ use Rattle.walrus_arena.specs.Arena.{entries_from}
 use Rattle.walrus_forms.specs.Kinds.{Kind}
 use Rattle.walrus_forms.specs.Records.{TypeGroup}
 use Rattle.walrus_types.specs.Items.{Item as TypeItem, Group}
-use Rattle.walrus_types.specs.Table.{Table as TypeTable, HasMember, group_at, type_at}
+use Rattle.walrus_types.specs.Table.{Table as TypeTable, type_at}
 use Rattle.walrus_types.specs.TypeLaws.{AreGrouped}
 use Rattle.walrus_types.proofs.Places.{once_of}
 use Rattle.wasm_merged_modules.specs.Merged.{kinds_of}
@@ -220,10 +220,10 @@ module _ (t : TypeTable) where
       distinct_join (ids_in g.types) (flat_map (λ (e : Entry). ids_in e.1.types) (entries_from (n + 1) xs)) (members_distinct g.types (each 0 g refl))
       (flat_distinct (n + 1) xs (λ place h at. each (suc place) h at) (λ id p q h k at_p a at_q b. (let e = one id (suc p) (suc q) h k at_p a at_q b in omega (arith, e))))
       (λ x a b. (
-          let e = in_flat (λ (e : Entry). ids_in e.1.types) (entries_from (n + 1) xs) x b in
-          let r = entry_of (n + 1) xs e.0 e.1 in
-          let same = one x 0 (suc r.place) g e.0.1 refl (ids_from g.types x a) r.at (ids_from e.0.1.types x e.2) in
-          omega (arith, same)
+      let e = in_flat (λ (e : Entry). ids_in e.1.types) (entries_from (n + 1) xs) x b in
+      let r = entry_of (n + 1) xs e.0 e.1 in
+      let same = one x 0 (suc r.place) g e.0.1 refl (ids_from g.types x a) r.at (ids_from e.0.1.types x e.2) in
+      omega (arith, same)
       ))
 
   pub ids_once : AreGrouped t → AreOnce (type_ids t)
