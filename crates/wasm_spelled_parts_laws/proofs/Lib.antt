@@ -1,5 +1,7 @@
 mod Customs
 mod Dense
+mod Due
+mod Entries
 mod File
 mod Fitting
 mod Groups
@@ -7,7 +9,9 @@ mod Handled
 mod Ids
 mod Merged
 mod Normal
+mod Parts
 mod Ruled
 mod Small
 mod TypeKinds
 mod Values
+mod Written

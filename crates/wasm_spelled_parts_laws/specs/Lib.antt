@@ -1,7 +1,9 @@
 pub mod Customs
 pub mod Dense
+pub mod Due
 pub mod Items
 pub mod Merged
 pub mod Operators
+pub mod Parts
 pub mod Ruled
 pub mod Whole
