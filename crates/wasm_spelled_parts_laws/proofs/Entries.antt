@@ -16,6 +16,7 @@ use Rattle.wasm_formats.specs.declared.fault.Space.{Space}
 use Rattle.wasm_formats.specs.declared.fault.Space.TheVariants as spaces
 use Rattle.wasm_format_bytes.specs.Lists.{EntriesFit}
 use Rattle.wasm_ref_types.specs.TypeSpellings.{HasGcTypes}
+use Rattle.wasm_operators.specs.declared.entry.Kind.{Kind as ItemKind}
 use Rattle.wasm_operators.specs.Bytes.{code_bytes, item_bytes, operator_bytes, unsigned_bytes}
 use Rattle.wasm_operators.specs.ItemSpellings.{SpellsForms}
 use Rattle.wasm_operators.specs.Kinds.{forms}
@@ -23,23 +24,23 @@ use Rattle.wasm_operators.specs.Operators.{Seen, kind_of}
 use Rattle.wasm_operators.specs.Ranges.{OperatorFits}
 use Rattle.wasm_operators.proofs.Codes.{code_has}
 use Rattle.wasm_operators.proofs.Operators.{operator_fits}
-use Rattle.wasm_operators.specs.Vecs.{Small}
-use Rattle.wasm_format_bytes.specs.Writers.{u32_writer}
+use Rattle.wasm_operators.specs.Vecs.{Small, parts_small}
+use Rattle.wasm_format_bytes.specs.Writers.{after_writer, u32_writer}
 use Rattle.wasm_grammar.specs.Exprs.{Known, expr, forms_of, is_constant}
 use Rattle.wasm_grammar.specs.Modules.{Active, Body, Custom, Declared, Element, Elements, Export, Expr, Expressions, Function, Functions, Global, Import, Imported, Memory, Mode, Module, Origin, Own, Passive, Placed, Segment, Table, Tag}
-use Rattle.wasm_grammar.specs.States.{known, nothing_yet, types_of}
+use Rattle.wasm_grammar.specs.States.{has_room, known, nothing_yet, types_of}
 use Rattle.wasm_grammar.specs.Values.{has_maximum, has_page_size, index, is_wide, must}
 use Rattle.wasm_grammar_bytes.specs.Values.{limits_writer, optional_size_writer}
 use Rattle.wasm_body_grammar.specs.Codes.{own_type}
 use Rattle.wasm_body_grammar.specs.Rules.{Around}
 use Rattle.wasm_sections.specs.Entities.{Entity, FunctionOf, TableOf, MemoryOf, GlobalOf, TagOf}
-use Rattle.wasm_sections.specs.Segments.{ActiveData, ActiveExpressions, ActiveFunctions, DataInto, DeclaredExpressions, DeclaredFunctions, ElementEntry, ExpressionsInto, FunctionsInto, PassiveData, PassiveExpressions, PassiveFunctions, pass}
+use Rattle.wasm_sections.specs.Segments.{ActiveData, ActiveExpressions, ActiveFunctions, DataEntry, DataInto, DeclaredExpressions, DeclaredFunctions, ElementEntry, ExpressionsInto, FunctionsInto, PassiveData, PassiveExpressions, PassiveFunctions, pass}
 use Rattle.wasm_sections.specs.TypeSection.{Measured, behind, measured}
-use Rattle.wasm_section_bytes.specs.Entries.{entity_writer, export_writer, function_writer, global_type_writer, global_writer, import_writer, index_writer, initialised_writer, memory_writer, page_size_writer, table_type_writer, table_writer, tag_writer}
+use Rattle.wasm_section_bytes.specs.Entries.{entity_writer, export_writer, function_writer, global_type_writer, global_writer, import_writer, index_writer, initialised_writer, memory_writer, page_size_writer, table_type_writer, table_writer, tag_type_writer, tag_writer}
 use Rattle.wasm_section_bytes.specs.Exprs.{constant_writer, expr_writer}
 use Rattle.wasm_section_bytes.specs.Flags.{IsNotDeclared, bytes_entry, entry_of_element, entry_of_segment, expressions_entry, functions_entry, is_funcref, items_entry}
 use Rattle.wasm_section_bytes.specs.Placed.{AllFit, EitherFits, SingleFits, group_placed, member_placed}
-use Rattle.wasm_section_bytes.specs.Segments.{contents_writer, data_form_writer, data_writer, element_form_writer, element_writer, expressions_writer, functions_writer, sized_bytes}
+use Rattle.wasm_section_bytes.specs.Segments.{contents_writer, data_flags_writer, data_form_writer, data_writer, element_flags_writer, element_form_writer, element_writer, expressions_writer, functions_writer, sized_bytes}
 use Rattle.wasm_section_bytes.specs.TypeBytes.{sub_writer}
 use Rattle.wasm_module_bytes.specs.Bytes.{origin_unplaced, slot_unplaced, unplaced, without_places}
 use Rattle.wasm_module_bytes.specs.Due.{IsWritten, bit, export_from, global_from, group_from, memory_from, shaped, space_kind, sub_from, table_from}
@@ -59,7 +60,7 @@ use Rattle.wasm_spelled_parts_laws.specs.Due.{ItemsInAreSpelled}
 use Rattle.wasm_spelled_parts_laws.specs.Items.{AreIn, BodyIn, ElementIn, GlobalIn, GroupIn, ImportIn, ItemsIn, KindIn, MaximumIn, MemoryIn, NameIn, NumberIn, OriginIn, RefIn, SegmentIn, SizeIn, TableIn, ValueIn}
 use Rattle.wasm_spelled_parts_laws.specs.Operators.{FittingOperatorsAreSpelled}
 use Rattle.wasm_spelled_parts_laws.specs.Parts.{AreNumbered, ItemsNumbered, ModeNumbered}
-use Rattle.wasm_spelled_parts_laws.proofs.Small.{AreBytes, bytes_joined, code_small, items_small, kind_bytes, small_bytes, u32_bytes}
+use Rattle.wasm_spelled_parts_laws.proofs.Small.{AreBytes, bytes_joined, code_small, items_small, kind_bytes, operator_small, small_bytes, u32_bytes}
 use Rattle.wasm_spelled_parts_laws.proofs.TypeKinds.{kind_spelled}
 use Rattle.wasm_spelled_parts_laws.proofs.Values.{ref_spelled, value_spelled}
 
@@ -191,12 +192,10 @@ exprs_constant k (e ∷ es) h = (known_constant k e h.0.0, exprs_constant k es h
 module _ (features : WasmFeatures) where
   constant_fits : (op : Seen) → OperatorFits features op → is_constant op.code ≡ true → (constant_writer features).fits op
   constant_fits op h e =
-      let code = code_has features op.code h.kind h.listed in
-      let bytes = flat_map item_bytes op.items in
-      let forms_spelled = ((operator_fits features).has op h).items in
-      let items = subst (λ (o : Option _). SpellsForms features (forms_of o) bytes op.items) (sym h.listed) forms_spelled in
-      ((op.code, op.items), refl, (((code_bytes op.code, small_bytes (code_bytes op.code) (code_small features op.code code), code), ap (λ (b : Bool). must b ConstExpr) e),
-      (bytes, small_bytes bytes (items_small features (forms h.kind) op.items (kind_bytes features h.kind) h.items), items)))
+      let sp = (operator_fits features).has op h in
+      let parts = parts_small (operator_bytes op) sp.first sp.later sp.joined (small_bytes (operator_bytes op) (operator_small features op h)) in
+      let items = subst (λ (o : Option ItemKind). SpellsForms features (forms_of o) sp.later op.items) (sym sp.listed) sp.items in
+      ((op.code, op.items), refl, (((sp.first, parts.0, sp.code), ap (λ (b : Bool). must b ConstExpr) e), (sp.later, parts.1, items)))
 
   expr_fits : (ops : Expr) → IsSpelled features ops → AllConstant ops → (expr_writer features (known nothing_yet)).fits ops
   expr_fits [] h k = tt
@@ -215,8 +214,8 @@ module _ (features : WasmFeatures) where
       (ref_spelled features 0 t.element h.0.0, (f.0, (size_fits flags t.wide t.initial f.2 h.0.1.0, maximum_fits flags t.wide t.maximum f.1 f.2 h.0.1.1)))
 
   init_fits : (t : Table) (k : Known) (o : Option Expr) → (table_type_writer features nothing_yet).fits (table_from t) → InitIsSpelled features o → IsInit k o → (table_writer features nothing_yet).fits (of_init (table_from t) o)
-  init_fits t k None ty h i = in_room _ ty
-  init_fits t k (Some e) ty h i = in_room _ (tt, (ty, expr_fits e h (known_constant k e i.0)))
+  init_fits t k None ty h i = in_room (has_room nothing_yet spaces.Table) ty
+  init_fits t k (Some e) ty h i = let f : (initialised_writer features nothing_yet).fits (tt, (table_from t, e)) = (tt, (ty, expr_fits e h (known_constant k e i.0))) in in_room (has_room nothing_yet spaces.Table) f
 
   pub table_made : (k : Known) (t : Table) → TableIn features t × IsInit k t.init → IsMade (table_writer features nothing_yet).fits (own_table (Some t))
   table_made k t h = go t.imported (init_fits t k t.init (table_type_fits t h.0) h.0.1 h.1)
@@ -236,7 +235,7 @@ module _ (features : WasmFeatures) where
   tag_made t h = go t.imported
     where
       go : (o : Option ℕ) → IsMade (tag_writer nothing_yet).fits (if_own o (tt, t.ty))
-      go None = in_room _ (tt, h)
+      go None = let f : (tag_type_writer nothing_yet).fits (tt, t.ty) = (tt, h) in in_room (has_room nothing_yet spaces.Tag) f
       go (Some n) = tt
 
   pub global_type_fits : (g : Global) → ValueIn features g.ty → (global_type_writer features nothing_yet).fits (global_from g)
@@ -251,7 +250,8 @@ module _ (features : WasmFeatures) where
     where
       go : (o : Origin Expr) → OriginIsSpelled features o → OwnConstant o → IsMade (global_writer features nothing_yet).fits (global_entry g o)
       go (Imported n) s k = tt
-      go (Own e) s k = in_room _ (global_type_fits g h.0.0, expr_fits e s k)
+      go (Own e) s k =
+          let f : (after_writer (global_type_writer features nothing_yet) (λ _. expr_writer features (known nothing_yet))).fits (global_from g, e) = (global_type_fits g h.0.0, expr_fits e s k) in in_room (has_room nothing_yet spaces.Global) f
 
   seen_constant : (k : Known) (o : Origin Expr) → IsInit k (own_init o) → OwnConstant o
   seen_constant k (Imported n) h = tt
@@ -287,32 +287,35 @@ module _ (features : WasmFeatures) where
   numbers_fit (n ∷ ns) h = (h.0, numbers_fit ns h.1)
 
   abbrev Fits : ElementEntry → Type 0
-  Fits x = (element_writer features nothing_yet).fits x
+  Fits x = (after_writer (element_flags_writer nothing_yet) (λ flags. element_form_writer features nothing_yet flags)).fits x
+
+  abbrev DataFits : DataEntry → Type 0
+  DataFits x = (after_writer (data_flags_writer nothing_yet) (λ flags. data_form_writer features nothing_yet flags)).fits x
 
   functions_fit : (wide : ℕ → Bool) (mode : Mode) (ns : List ℕ) → ModeIsSpelled features mode → ModeConstant mode → ModeNumbered mode → length ns < 2 ^ 32 → AllByRecursion (λ (n : ℕ). n < 2 ^ 32) ns → Fits (functions_entry wide mode ns)
-  functions_fit wide Passive ns s c n few h = in_room _ (omega arith, ((tt, ns), refl, (tt, (few, numbers_fit ns h))))
-  functions_fit wide Declared ns s c n few h = in_room _ (omega arith, ((tt, ns), refl, (tt, (few, numbers_fit ns h))))
+  functions_fit wide Passive ns s c n few h = (omega arith, ((tt, ns), refl, (tt, (few, numbers_fit ns h))))
+  functions_fit wide Declared ns s c n few h = (omega arith, ((tt, ns), refl, (tt, (few, numbers_fit ns h))))
   functions_fit wide (Active n e) ns s c lt few h = go (n == 0 && not (wide 0))
     where
       go : (b : Bool) → Fits (if b then (0, ActiveFunctions (e, ns)) else (2, FunctionsInto ((n, e), (tt, ns))))
-      go true = in_room _ (omega arith, ((e, ns), refl, (expr_fits e s c, (few, numbers_fit ns h))))
-      go false = in_room _ (omega arith, (((n, e), (tt, ns)), refl, ((lt, expr_fits e s c), (tt, (few, numbers_fit ns h)))))
+      go true = (omega arith, ((e, ns), refl, (expr_fits e s c, (few, numbers_fit ns h))))
+      go false = (omega arith, (((n, e), (tt, ns)), refl, ((lt, expr_fits e s c), (tt, (few, numbers_fit ns h)))))
 
   expressions_fit : (wide : ℕ → Bool) (mode : Mode) (ty : RefType) (es : List Expr) → ModeIsSpelled features mode → ModeConstant mode → ModeNumbered mode → RefIn features ty → length es < 2 ^ 32 → AllByRecursion (IsSpelled features) es → AllByRecursion AllConstant es
       → Fits (expressions_entry wide mode ty es)
-  expressions_fit wide Passive ty es s c n r few h k = in_room _ (omega arith, ((ty, es), refl, (ref_spelled features 0 ty r, (few, exprs_fit es h k))))
-  expressions_fit wide Declared ty es s c n r few h k = in_room _ (omega arith, ((ty, es), refl, (ref_spelled features 0 ty r, (few, exprs_fit es h k))))
+  expressions_fit wide Passive ty es s c n r few h k = (omega arith, ((ty, es), refl, (ref_spelled features 0 ty r, (few, exprs_fit es h k))))
+  expressions_fit wide Declared ty es s c n r few h k = (omega arith, ((ty, es), refl, (ref_spelled features 0 ty r, (few, exprs_fit es h k))))
   expressions_fit wide (Active n e) ty es s c lt r few h k = go (n == 0 && not (wide 0) && is_funcref ty)
     where
       go : (b : Bool) → Fits (if b then (4, ActiveExpressions (e, es)) else (6, ExpressionsInto ((n, e), (ty, es))))
-      go true = in_room _ (omega arith, ((e, es), refl, (expr_fits e s c, (few, exprs_fit es h k))))
-      go false = in_room _ (omega arith, (((n, e), (ty, es)), refl, ((lt, expr_fits e s c), (ref_spelled features 0 ty r, (few, exprs_fit es h k)))))
+      go true = (omega arith, ((e, es), refl, (expr_fits e s c, (few, exprs_fit es h k))))
+      go false = (omega arith, (((n, e), (ty, es)), refl, ((lt, expr_fits e s c), (ref_spelled features 0 ty r, (few, exprs_fit es h k)))))
 
   abbrev pub ElementHas : Element → Type 0
   ElementHas e = ElementIn features e × ((ModeConstant e.mode × ItemsConstant e.items) × (ModeNumbered e.mode × ItemsNumbered e.items))
 
-  pub element_fits : (wide : ℕ → Bool) (e : Element) → ElementHas e → Fits (entry_of_element wide e)
-  element_fits wide e h = go e.items h.0.1 h.1.0.1 h.1.1.1
+  pub element_fits : (wide : ℕ → Bool) (e : Element) → ElementHas e → (element_writer features nothing_yet).fits (entry_of_element wide e)
+  element_fits wide e h = in_room (has_room nothing_yet spaces.Element) (go e.items h.0.1 h.1.0.1 h.1.1.1)
     where
       go : (items : Elements) → ItemsIn features items → ItemsConstant items → ItemsNumbered items → Fits (items_entry wide e.mode items)
       go (Functions ns) i c n = functions_fit wide e.mode ns h.0.0 h.1.0.0 h.1.1.0 i n
@@ -326,13 +329,13 @@ module _ (features : WasmFeatures) where
   SegmentHas x = SegmentIn features x × (ModeConstant x.mode × ModeNumbered x.mode)
 
   pub segment_fits : (x : Segment) → SegmentHas x → (data_writer features nothing_yet).fits (entry_of_segment x)
-  segment_fits x h = go x.mode h.0.0 h.1.0 h.1.1
+  segment_fits x h = in_room (has_room nothing_yet spaces.Data) (go x.mode h.0.0 h.1.0 h.1.1)
     where
-      go : (mode : Mode) → ModeIsSpelled features mode → ModeConstant mode → ModeNumbered mode → (data_writer features nothing_yet).fits (bytes_entry mode x.bytes)
-      go Passive s c n = in_room _ (omega arith, (x.bytes, refl, contents_fit x.bytes h.0.1))
-      go Declared s c n = in_room _ (omega arith, (x.bytes, refl, contents_fit x.bytes h.0.1))
+      go : (mode : Mode) → ModeIsSpelled features mode → ModeConstant mode → ModeNumbered mode → DataFits (bytes_entry mode x.bytes)
+      go Passive s c n = (omega arith, (x.bytes, refl, contents_fit x.bytes h.0.1))
+      go Declared s c n = (omega arith, (x.bytes, refl, contents_fit x.bytes h.0.1))
       go (Active n e) s c lt = active (n == 0)
         where
-          active : (b : Bool) → (data_writer features nothing_yet).fits (if b then (0, ActiveData (e, x.bytes)) else (2, DataInto ((n, e), x.bytes)))
-          active true = in_room _ (omega arith, ((e, x.bytes), refl, (expr_fits e s c, contents_fit x.bytes h.0.1)))
-          active false = in_room _ (omega arith, (((n, e), x.bytes), refl, ((lt, expr_fits e s c), contents_fit x.bytes h.0.1)))
+          active : (b : Bool) → DataFits (if b then (0, ActiveData (e, x.bytes)) else (2, DataInto ((n, e), x.bytes)))
+          active true = (omega arith, ((e, x.bytes), refl, (expr_fits e s c, contents_fit x.bytes h.0.1)))
+          active false = (omega arith, (((n, e), x.bytes), refl, ((lt, expr_fits e s c), contents_fit x.bytes h.0.1)))
