@@ -7,6 +7,7 @@ mod Fitting
 mod Groups
 mod Handled
 mod Ids
+mod Joined
 mod Merged
 mod Normal
 mod Parts

@@ -7,3 +7,4 @@ pub mod Operators
 pub mod Parts
 pub mod Ruled
 pub mod Whole
+pub mod Written

@@ -8,6 +8,7 @@ ghost use Rattle.wasm_spelled_parts_laws.specs.Merged.{MergedItemsAreIn};
 ghost use Rattle.wasm_spelled_parts_laws.specs.Operators.{FittingNamesAreSmall, FittingOperatorsAreSpelled, RenamedOperatorsFit};
 ghost use Rattle.wasm_spelled_parts_laws.specs.Parts.{WrittenItemsAreIn};
 ghost use Rattle.wasm_spelled_parts_laws.specs.Ruled.{CountedPartsAreRuled};
+ghost use Rattle.wasm_spelled_parts_laws.specs.Written.{DuePartsAreRead, DuePartsAreRewritten, DuePartsAreWritten};
 
 /// The custom sections that are written of a file stand in their order (Core Specification, binary format: custom section).
 pub fn written_customs_are_in_order()
@@ -93,4 +94,33 @@ pub fn items_in_are_spelled()
     ensures { ItemsInAreSpelled }
 {
     fitting_operators_are_spelled();
+}
+
+/// The part that is written of a file, with its custom sections, stands as a module does in a file, meets the rules, and has spellings for its items.
+pub fn due_parts_are_written()
+    ensures { DuePartsAreWritten }
+{
+    written_parts_are_dense();
+    counted_parts_are_ruled();
+    written_customs_are_in_order();
+    read_items_are_in();
+    written_items_are_in();
+    items_in_are_spelled();
+}
+
+/// Its canonical bytes read as it, places aside.
+pub fn due_parts_are_read()
+    ensures { DuePartsAreRead }
+{
+    due_parts_are_written();
+    wasm_canonical::laws::spelled_are_canonical();
+}
+
+/// They are the file rewritten, with the pairs of places of its bodies, or without.
+pub fn due_parts_are_rewritten()
+    ensures { DuePartsAreRewritten }
+{
+    due_parts_are_written();
+    due_parts_are_read();
+    wasm_places_laws::laws::written_pairs_are_places();
 }
