@@ -1,6 +1,7 @@
 -- Lemmas: the part that is written of a file, with its custom sections, is read again.
 use Rattle.std.specs.Prelude.{ℕ, ◌+◌, ◌<◌, ◌≤◌, ◌^◌, ◌≡◌, Bool, true, false, not, List, [], ◌∷◌, ◌++◌, filter, map, Option, Some, None, refl, if◌then◌else◌}
 use Rattle.std.specs.List.{AllByRecursion, filter_map}
+use Rattle.std.specs.Str.{is_utf8}
 use Rattle.std.proofs.Common.{ap, sym, ◌∙◌, subst, arith}
 use Rattle.wasm_features.specs.declared.WasmFeatures.{WasmFeatures}
 use Rattle.wasm_grammar.specs.Modules.{Body, Custom, Function, Imported, Module, Origin, Own, Placed}
@@ -111,15 +112,23 @@ items_with features n cs h k = record {
 abbrev IsNamed : Custom → Type 0
 IsNamed c = NameIn c.name
 
+names_utf8 : is_utf8 section_name ≡ true
+unfolding Rattle.std.specs.Str.is_utf8 Rattle.std.specs.Str.chars lib.Utf8.encode
+names_utf8 = refl
+
+producers_utf8 : is_utf8 producers_name ≡ true
+unfolding Rattle.std.specs.Str.is_utf8 Rattle.std.specs.Str.chars lib.Utf8.encode
+producers_utf8 = refl
+
 names_named : (b : Bool) (bytes : List ℕ) → AllByRecursion IsNamed (section_if b (section_of section_name bytes))
 names_named false bytes = tt
 names_named true [] = tt
-names_named true (x ∷ bytes) = ((omega arith, refl), tt)
+names_named true (x ∷ bytes) = ((omega arith, names_utf8), tt)
 
 producers_named : (b : Bool) (bytes : List ℕ) → AllByRecursion IsNamed (section_if b (section_of producers_name bytes))
 producers_named false bytes = tt
 producers_named true [] = tt
-producers_named true (x ∷ bytes) = ((omega arith, refl), tt)
+producers_named true (x ∷ bytes) = ((omega arith, producers_utf8), tt)
 
 customs_named : (names producers : Bool) (features : WasmFeatures) (file : Module) (p : Plan) → AreIn features file → AllByRecursion IsNamed (customs_written names producers features file p)
 customs_named names producers features file p h =
