@@ -130,7 +130,7 @@ to_space Labels spaces.Label h = absurd (false≢true h)
 -- ---- what imports bring
 
 -- the import by which one is brought
-abbrev BroughtBy : Module → Space → ℕ → ℕ → Type 0
+abbrev pub BroughtBy : Module → Space → ℕ → ℕ → Type 0
 BroughtBy m space n x = brought_to space (slice_index_or m.imports x None) ≡ Some n
 
 pub record FromImport (m : Module) (space : Space) (n x : ℕ) : Type 0 where
@@ -154,7 +154,7 @@ from_import m space n x e = by (slice_index_or m.imports x None) refl e
       | inr not_to ↦ absurd (none-some n (sym (ap (λ (b : Bool). if b then Some i.item.number else None) not_to) ∙ h))
     ]
 
-names_back : (m : Module) → ImportsLink m → (space : Space) (n x : ℕ) → BroughtBy m space n x → import_of m space n ≡ Some x
+pub names_back : (m : Module) → ImportsLink m → (space : Space) (n x : ℕ) → BroughtBy m space n x → import_of m space n ≡ Some x
 names_back m links space n x e =
     let f = from_import m space n x e in
     let h = links.named x f.import f.there in
@@ -206,14 +206,14 @@ turned f (y ∷ ns) h i j k n lt e_i e_j = by (λ i j lt e_i e_j. turned f ns h.
     by rest (Some q) is (suc i) (suc j) lt e_i e_j = later (rest i j (omega (arith, lt)) e_i e_j)
 
 -- a place of two lists is one of the first or of the second
-abbrev At : List ℕ → List ℕ → ℕ → ℕ → Type 0
+abbrev pub At : List ℕ → List ℕ → ℕ → ℕ → Type 0
 At xs ys i n = ((i < length xs) × (slice_get xs i ≡ Some n)) ⊎ ((j : ℕ) × (i ≡ length xs + j) × (slice_get ys j ≡ Some n))
 
 at_later : (x : ℕ) (xs ys : List ℕ) (i n : ℕ) → At xs ys i n → At (x ∷ xs) ys (suc i) n
 at_later x xs ys i n (inl h) = inl (let lt = h.0 in omega (arith, lt), h.1)
 at_later x xs ys i n (inr h) = inr (h.0, (let e = h.1 in omega (arith, e)), h.2)
 
-split_at : (xs ys : List ℕ) (i n : ℕ) → slice_get (xs ++ ys) i ≡ Some n → At xs ys i n
+pub split_at : (xs ys : List ℕ) (i n : ℕ) → slice_get (xs ++ ys) i ≡ Some n → At xs ys i n
 split_at [] ys i n e = inr (i, omega arith, e)
 split_at (x ∷ xs) ys zero n e = inl (omega arith, e)
 split_at (x ∷ xs) ys (suc i) n e = at_later x xs ys i n (split_at xs ys i n e)
