@@ -1,13 +1,13 @@
 mod Left
 mod Stay
-mod Reach
+pub mod Reach
 mod Refs
 mod Low
 mod Walk
 mod Text
 mod Parts
 mod Found
-mod Types
+pub mod Types
 mod Handled
 mod Turns
 mod Fit

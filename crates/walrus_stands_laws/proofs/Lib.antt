@@ -1,0 +1,5 @@
+mod Declared
+mod Turns
+mod Placed
+mod Types
+mod Listed

@@ -1,0 +1,4 @@
+pub mod Placed
+pub mod Declared
+pub mod Types
+pub mod Listed
