@@ -9,3 +9,4 @@ mod Read
 mod Bound
 mod ReadLocals
 mod Kept
+mod Known

@@ -6,3 +6,4 @@ pub mod Locals
 pub mod Read
 pub mod ReadLocals
 pub mod Kept
+pub mod Known

@@ -2,12 +2,15 @@
 
 ghost use Rattle.walrus_customs_laws.specs.Items.{ItemNamesAreListed};
 ghost use Rattle.walrus_customs_laws.specs.Kept.{NamesAreKept};
+ghost use Rattle.walrus_customs_laws.specs.Known.{BodiesAreKnown};
 ghost use Rattle.walrus_customs_laws.specs.Locals.{LocalNamesAreListed, LocalsAreNumbered, UsedNamesAreListed};
 ghost use Rattle.walrus_customs_laws.specs.Payloads.{NamesAreSpelled, ProducersAreSpelled};
 ghost use Rattle.walrus_customs_laws.specs.Read.{ReadNamesAreLast};
 ghost use Rattle.walrus_customs_laws.specs.ReadLocals.{ReadLocalNamesAreLast};
 ghost use Rattle.walrus_customs_laws.specs.Sections.{CustomsAreSpelled, ReadCustomsAreSpelled};
 ghost use Rattle.walrus_customs_laws.specs.There.{NamesAreThere};
+
+use walrus_parse_gc_laws::numbers::used_locals_are_meant;
 
 /// Custom sections that can be written are the shortest spelling of the module's (Core Specification, binary format: custom section): those of dynamic linking, or
 /// the others, without those of debuggers.
@@ -83,4 +86,12 @@ pub fn names_are_kept<B>()
     local_names_are_listed();
     read_names_are_last::<B>();
     read_local_names_are_last::<B>();
+}
+
+/// Of bodies that are written with the facts of their functions it is known which locals they name, and that these have their places as their numbers.
+pub fn bodies_are_known()
+    ensures { BodiesAreKnown }
+{
+    used_locals_are_meant();
+    locals_are_numbered();
 }
