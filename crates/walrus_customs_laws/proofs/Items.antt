@@ -74,8 +74,8 @@ module _ {T : Type 0} (id_of : T → ℕ) (called : T → Option (List ℕ)) (nu
   arena_names own lists =
       let found : (x : T) → In (items_from 0 a.slots) x → item_at a (id_of x) ≡ Some x =
       λ x h.
-          let r = in_items 0 a.slots x h in
-          ap (λ (id : ℕ). item_at a id) (own r.0 x r.1) ∙ r.1 in
+      let r = in_items 0 a.slots x h in
+      ap (λ (id : ℕ). item_at a id) (own r.0 x r.1) ∙ r.1 in
       let named : (x : T) → In (items_from 0 a.slots) x → called x ≡ name_at (id_of x) = λ x h. sym (ap (option_and_then called) (found x h)) in
       listed id_of (λ (x : T). number (id_of x)) called ids name_at (items_from 0 a.slots)
       (record {

@@ -138,8 +138,8 @@ module _ {B : Type 0} (listed : ItemNamesAreListed) (used : UsedNamesAreListed) 
       ∙ bodied read.locals i slots_of w.brought bodies
       (all_by (IsBrought file) (λ (f : ℕ). slots_of f ≡ []) (λ f none. slot_none (read_features config) file f (slice_index_or file.functions f None) none) w.brought w.are_brought)
       (λ k body at.
-          (w.lists.lists spaces.Function).has body.function (length w.brought + k)
-          (ap (λ (l : List ℕ). slice_get l (length w.brought + k)) w.functions ∙ behind_it w.brought (map (λ (body : BodyFacts). body.function) bodies) k body.function (function_at bodies k body at)))
+      (w.lists.lists spaces.Function).has body.function (length w.brought + k)
+      (ap (λ (l : List ℕ). slice_get l (length w.brought + k)) w.functions ∙ behind_it w.brought (map (λ (body : BodyFacts). body.function) bodies) k body.function (function_at bodies k body at)))
       (all_by (KnowsLocals read.locals read.funcs i) (λ (body : BodyFacts). used_names read.locals i body ≡ slots_of body.function) body_same bodies w.bodies_known)
       ∙ ap (locals_from slots_of 0) (sym w.functions)
       ∙ locals_same (read_features config) file 0 (p.listed Functions)

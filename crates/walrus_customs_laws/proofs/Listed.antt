@@ -275,16 +275,16 @@ module _ {T : Type 0} (key : T → ℕ) (number : T → Option ℕ) (named : T �
     listed xs h =
         one_list (by_number (entries xs)) (names_from name 0 ids) (rising_rises (entries xs) (entries_apart xs h.once h.told)) (from_rises name 0 ids)
         (λ e k.
-            let r = in_flat (λ (x : T). entry (number x) (named x)) xs e (of_rising (entries xs) e k) in
-            let is = entry_is (number r.0) (named r.0) e r.2 in
-            to_names name 0 ids e e.0 (key r.0) (h.told r.0 e.0 e.1 r.1 is.0 is.1) (omega arith) (sym (h.names r.0 r.1) ∙ is.1))
+        let r = in_flat (λ (x : T). entry (number x) (named x)) xs e (of_rising (entries xs) e k) in
+        let is = entry_is (number r.0) (named r.0) e r.2 in
+        to_names name 0 ids e e.0 (key r.0) (h.told r.0 e.0 e.1 r.1 is.0 is.1) (omega arith) (sym (h.names r.0 r.1) ∙ is.1))
         (λ e k.
-            let s = of_names name 0 ids e k in
-            let r = h.has s.place s.id e.1 s.at s.is in
-            let place : s.place ≡ e.0 = let is = s.number in omega (arith, is) in
-            to_rising (entries xs) e
-            (flat_in (λ (x : T). entry (number x) (named x)) xs r.0 e r.1
-            (is_entry (number r.0) (named r.0) e (r.3 ∙ ap (λ (n : ℕ). Some n) place) (h.names r.0 r.1 ∙ ap name r.2 ∙ s.is))))
+        let s = of_names name 0 ids e k in
+        let r = h.has s.place s.id e.1 s.at s.is in
+        let place : s.place ≡ e.0 = let is = s.number in omega (arith, is) in
+        to_rising (entries xs) e
+        (flat_in (λ (x : T). entry (number x) (named x)) xs r.0 e r.1
+        (is_entry (number r.0) (named r.0) e (r.3 ∙ ap (λ (n : ℕ). Some n) place) (h.names r.0 r.1 ∙ ap name r.2 ∙ s.is))))
 
 -- ---- a list that stands by its numbers already
 

@@ -96,9 +96,9 @@ module _ (locals : List Local) (functions : Arena Function) where
       let f = body.function in
       let numbers : (id : ℕ) → (bodies_numbers locals functions (body_numbers locals functions i body) bodies).locals f id ≡ with_numbers f 0 (ids_of body local) i.locals f id =
       λ id.
-          fold_other bodies (body_numbers locals functions i body) f id apart
-          ∙ ap (λ (o : Option Function). (slot_numbers locals functions i body o).locals f id) is.there
-          ∙ ap (λ (o : Option LocalFunction). (kind_numbers locals functions i body o).locals f id) is.is_local in record {
+      fold_other bodies (body_numbers locals functions i body) f id apart
+      ∙ ap (λ (o : Option Function). (slot_numbers locals functions i body o).locals f id) is.there
+      ∙ ap (λ (o : Option LocalFunction). (kind_numbers locals functions i body o).locals f id) is.is_local in record {
         has = λ id n at. numbers id ∙ has_place f 0 (ids_of body local) i.locals d n id at ∙ ap (λ (j : ℕ). Some j) (omega arith);
         told = λ id n e.
             let t = place_told f 0 (ids_of body local) i.locals d id n (none id) (sym (numbers id) ∙ e) in

@@ -10,7 +10,7 @@ use Rattle.wasm_part.specs.Closed.{IsListed}
 use Rattle.wasm_part.specs.Order.{InOrder, OwnBefore, brought_by, brought_to, import_of}
 use Rattle.wasm_part.specs.Part.{Plan, declaring, part, picked, renumbered_element}
 use Rattle.walrus_types.proofs.Places.{left_at}
-use Rattle.walrus_declared_laws.specs.Added.{IsAdded, LastSegmentsAreAdded, ListsLast, declared_element, declaring_plan, listed_but, with_segment}
+use Rattle.walrus_declared_laws.specs.Added.{LastSegmentsAreAdded, ListsLast, declared_element, declaring_plan, listed_but, with_segment}
 
 front_slot : {A : Type 0} (xs ys : List (Option A)) (n : ℕ) → n < length xs → slice_index_or (xs ++ ys) n None ≡ slice_index_or xs n None
 front_slot [] ys n lt = absurd (omega (arith, lt))

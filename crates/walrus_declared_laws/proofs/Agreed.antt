@@ -1,17 +1,17 @@
 -- Lemmas: modules that agree on what a plan lists have one order by it.
-use Rattle.std.specs.Prelude.{ℕ, zero, suc, ◌≡◌, ◌+◌, ◌<◌, ◌⊎◌, ◌↔◌, Contains, List, [], ◌∷◌, ◌++◌, length, map, Option, Some, None, slice_get, slice_index_or, refl}
-use Rattle.std.specs.List.{AllByRecursion, cons_option, filter_map}
+use Rattle.std.specs.Prelude.{ℕ, zero, suc, ◌≡◌, ◌+◌, ◌<◌, ◌⊎◌, Contains, List, [], ◌∷◌, ◌++◌, length, map, Option, Some, None, slice_get, slice_index_or, refl}
+use Rattle.std.specs.List.{AllByRecursion, cons_option}
 use Rattle.std.proofs.Common.{inl, inr, ap, sym, subst, ◌∙◌, arith}
 use Rattle.std.proofs.lemmas.Option.{none-some, same_Some}
 use Rattle.walrus_types.proofs.Places.{contains_has, right_at}
-use Rattle.wasm_grammar.specs.Modules.{Element, Export, Function, Global, Import, Memory, Module, Table, Tag}
+use Rattle.wasm_grammar.specs.Modules.{Import, Module}
 use Rattle.wasm_import_links.specs.Links.{function_brought, global_brought, memory_brought, slot_import, table_brought, tag_brought}
 use Rattle.wasm_operators.specs.Items.{Space, Types, Functions, Tables, Memories, Tags, Globals, ElementSegments, DataSegments, Locals, Labels}
 use Rattle.wasm_part.specs.Agree.{AgreeOn, SlotsAgree}
 use Rattle.wasm_part.specs.Closed.{IsListed}
 use Rattle.wasm_part.specs.Order.{HasDeclared, Holds, InOrder, OwnBefore, Wants, brought_by, brought_to, import_of, size_of, slot_size}
 use Rattle.wasm_part.specs.Part.{Plan}
-use Rattle.walrus_declared_laws.specs.Agreed.{AgreeingModulesAreOrdered, IsOrderedSo}
+use Rattle.walrus_declared_laws.specs.Agreed.{AgreeingModulesAreOrdered}
 
 get_mapped : {X Y : Type 0} (f : X → Y) (xs : List X) (i : ℕ) (d : X) → slice_index_or (map f xs) i (f d) ≡ f (slice_index_or xs i d)
 get_mapped f [] i d = refl
@@ -128,4 +128,4 @@ module _ (p : Plan) (m k : Module) (agree : AgreeOn p m k) where
   declared_on (ns ∷ ks ∷ nss) h = h
 
 pub agreeing_ordered : AgreeingModulesAreOrdered
-agreeing_ordered p m k agree = record { ordered = λ o. in_order p m k agree o; declared = declared_on p m k agree }
+agreeing_ordered p m k agree = record { ordered = λ o. in_order p m k agree o; wants = wants_on p m k agree; declared = declared_on p m k agree }

@@ -1,16 +1,15 @@
 -- Lemmas: what is declared of a module is added by its plan.
-use Rattle.std.specs.Prelude.{ℕ, zero, suc, ◌≡◌, ◌+◌, ◌<◌, ◌⊎◌, List, [], ◌∷◌, ◌++◌, length, map, Option, Some, None, slice_get, slice_index_or, refl}
+use Rattle.std.specs.Prelude.{ℕ, zero, suc, ◌≡◌, ◌+◌, ◌<◌, List, [], ◌∷◌, ◌++◌, length, map, Option, Some, None, slice_index_or, refl}
 use Rattle.std.specs.List.{AllByRecursion}
 use Rattle.std.specs.Option.{option_map}
 use Rattle.std.proofs.Common.{inl, inr, ap, sym, subst, ◌∙◌, arith}
-use Rattle.std.proofs.lemmas.List.{length-map, map-append}
-use Rattle.walrus_arena.specs.Arena.{Arena, entries_from}
-use Rattle.walrus_emit.specs.Left.{AddsDeclared, Declares}
+use Rattle.std.proofs.lemmas.List.{map-append}
+use Rattle.walrus_arena.specs.Arena.{entries_from}
+use Rattle.walrus_emit.specs.Left.{AddsDeclared}
 use Rattle.walrus_items.specs.declared.local.Local.{Local}
-use Rattle.walrus_meaning.specs.Meaning.{means, own_element, own_function, slots_of}
-use Rattle.walrus_meaning.specs.Bodies.{local_ids, own_operators}
+use Rattle.walrus_meaning.specs.Meaning.{means, own_element, own_function}
+use Rattle.walrus_meaning.specs.Bodies.{own_operators}
 use Rattle.walrus_module.specs.Parts.{Module as Parts}
-use Rattle.walrus_module_items.specs.declared.element.Element.{Element}
 use Rattle.walrus_module_items.specs.declared.function.Function.{Function}
 use Rattle.walrus_module_items.specs.declared.function.FunctionKind.{FunctionKind}
 use Rattle.walrus_module_items.specs.declared.function.FunctionKind.TheVariants as kinds
@@ -27,7 +26,7 @@ use Rattle.wasm_part.specs.Part.{Plan, part}
 use Rattle.wasm_ruled_normal.specs.Normal.{text_of}
 use Rattle.wasm_ruled_renamed.specs.Renamed.{renamed_placed}
 use Rattle.walrus_declared_laws.specs.Added.{ListsLast, declared_element, declaring_plan, with_segment}
-use Rattle.walrus_declared_laws.specs.Emitted.{EmissionsDeclare, IsDeclaredBy, living, plan_with}
+use Rattle.walrus_declared_laws.specs.Emitted.{EmissionsDeclare, IsDeclaredBy, living}
 use Rattle.walrus_declared_laws.proofs.Added.{last_added, none_brought}
 
 -- ---- the numbers of locals don't show in the order

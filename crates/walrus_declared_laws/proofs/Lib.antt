@@ -4,3 +4,5 @@ mod Agreed
 mod Emitted
 mod Wanted
 mod Marks
+mod There
+mod Standing

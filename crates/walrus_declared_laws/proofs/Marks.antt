@@ -1,8 +1,8 @@
 -- Lemmas: the functions that are marked as referred to and as declared are those that a plan wants and holds.
-use Rattle.std.specs.Prelude.{ℕ, zero, suc, ◌≡◌, ◌+◌, ◌<◌, ◌≤◌, ◌⊎◌, ◌↔◌, ◌&&◌, ◌++◌, Bool, true, false, not, Contains, List, [], ◌∷◌, filter, fold, length, map, replicate, Option, Some, None, slice_get, slice_index_or, slice_set, refl, if◌then◌else◌}
+use Rattle.std.specs.Prelude.{ℕ, zero, suc, ◌≡◌, ◌+◌, ◌<◌, ◌≤◌, ◌⊎◌, ◌&&◌, ◌++◌, Bool, true, false, not, List, [], ◌∷◌, filter, fold, length, map, replicate, Option, Some, None, slice_get, refl, if◌then◌else◌}
 use Rattle.std.specs.List.{AllZip, flat_map}
 use Rattle.std.specs.Option.{option_map}
-use Rattle.std.proofs.Common.{inl, inr, ap, sym, subst, ◌∙◌, arith, append_assoc}
+use Rattle.std.proofs.Common.{inl, inr, ap, sym, subst, ◌∙◌, arith}
 use Rattle.std.proofs.lemmas.Bool.{cases_Bool, cases_lt, false≢true}
 use Rattle.std.proofs.lemmas.List.{length-map}
 use Rattle.std.proofs.lemmas.Option.{none-some, same_Some}
@@ -29,8 +29,8 @@ use Rattle.walrus_instr.specs.declared.instr.Value.TheVariants as constants
 use Rattle.walrus_instr.specs.declared.seq.InstrLocId.{InstrLocId}
 use Rattle.walrus_items.specs.declared.local.Local.{Local}
 use Rattle.walrus_local_function.specs.declared.local_function.LocalFunction.{LocalFunction}
-use Rattle.walrus_meaning.specs.Bodies.{depth_of, local_ids, own_body, own_instr, own_operators, own_piece, own_seen}
-use Rattle.walrus_meaning.specs.Meaning.{own_element, own_export, own_global, slots_of}
+use Rattle.walrus_meaning.specs.Bodies.{depth_of, local_ids, own_instr, own_piece, own_seen}
+use Rattle.walrus_meaning.specs.Meaning.{own_element, own_export, own_global}
 use Rattle.walrus_meaning.specs.Words.{const_seen, own_expr}
 use Rattle.walrus_module.specs.Parts.{parts}
 use Rattle.walrus_module.specs.declared.module.Module.{Module}
@@ -56,7 +56,6 @@ use Rattle.wasm_grammar.specs.Modules as grammar
 use Rattle.wasm_operators.specs.Items.{Types, Functions, Tables, Memories, Tags, Globals, ElementSegments, DataSegments, Locals, Labels, Item, Names, Number, S32, S64, Bits, Byte, Bytes, Heap, Block, Access, ManyLabels, ManyValues, ManyClauses}
 use Rattle.wasm_operators.specs.NameLaws.{same}
 use Rattle.wasm_operators.specs.Names.{Renaming, renamed_item, renamed_operator}
-use Rattle.wasm_operators.specs.Operators.{Seen}
 use Rattle.wasm_part.specs.Closed.{Rise}
 use Rattle.wasm_part.specs.Order.{HasDeclared, Holds, Wants}
 use Rattle.wasm_part.specs.Part.{Plan}
@@ -64,7 +63,7 @@ use Rattle.wasm_ruled_renamed.specs.Bodies.{with_numbers}
 use Rattle.wasm_ruled_renamed.specs.Renamed.{renamed_placed}
 use Rattle.walrus_types.proofs.Places.{Has, contains_has, has_contains}
 use Rattle.walrus_declared_laws.specs.Declared.{UndeclaredAreDeclared, in_one}
-use Rattle.walrus_declared_laws.specs.Wanted.{AreTold, ListsAll, WantsAreTold, element_names, export_names, function_refs, given_out, global_refs, held, held_names, init_refs, is_ref, origin_refs, referred_in, refs, single_refs, wanted}
+use Rattle.walrus_declared_laws.specs.Wanted.{AreTold, ListsAll, WantsAreTold, element_names, export_names, function_refs, global_refs, held, is_ref, referred_in, refs, single_refs, wanted}
 
 -- ---- what an instruction refers to
 

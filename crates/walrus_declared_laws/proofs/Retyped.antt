@@ -1,9 +1,8 @@
 -- Lemmas: plans that number the types alike that a file's items name have one part of the file's merged module.
-use Rattle.std.specs.Prelude.{ℕ, zero, suc, ◌≡◌, ◌↔◌, ◌++◌, Bool, true, false, Contains, List, [], ◌∷◌, filter, map, Option, Some, None, slice_index_or, refl, if◌then◌else◌}
+use Rattle.std.specs.Prelude.{ℕ, zero, suc, ◌≡◌, ◌++◌, Bool, true, false, List, [], ◌∷◌, filter, map, Option, Some, None, slice_index_or, refl, if◌then◌else◌}
 use Rattle.std.specs.List.{AllByRecursion}
 use Rattle.std.specs.Option.{option_map}
 use Rattle.std.proofs.Common.{ap, sym, ◌∙◌}
-use Rattle.walrus_forms.specs.Records.{TypeGroup}
 use Rattle.walrus_forms.specs.Renaming.{at, renamed_heap, renamed_ref, renamed_value}
 use Rattle.walrus_forms.specs.declared.value.HeapType.{HeapType}
 use Rattle.walrus_forms.specs.declared.value.HeapType.TheVariants as heaps
@@ -12,30 +11,29 @@ use Rattle.walrus_forms.specs.declared.value.ValType.{ValType}
 use Rattle.walrus_forms.specs.declared.value.ValType.TheVariants as values
 use Rattle.wasm_body_grammar.specs.Codes.{param_count}
 use Rattle.wasm_body_grammar.specs.Rules.{Around}
-use Rattle.wasm_features.specs.declared.WasmFeatures.{WasmFeatures}
 use Rattle.wasm_formats.specs.declared.fault.Space.{Space as FileSpace}
 use Rattle.wasm_formats.specs.declared.fault.Space.TheVariants as spaces
 use Rattle.wasm_grammar.specs.Modules as grammar
 use Rattle.wasm_module_rules.specs.Linked.{Each}
-use Rattle.wasm_merged_modules.specs.Merged.{ids_of, kept_of, merged_module}
+use Rattle.wasm_merged_modules.specs.Merged.{ids_of, merged_module}
 use Rattle.wasm_normal_form.specs.Bodies.{is_used, new_number, used_keys}
 use Rattle.wasm_normal_form.specs.Locals.{Key, in_order, insert_key, is_less, key_cmp, numbered}
 use Rattle.wasm_normal_form.specs.Normal.{normal_ops}
 use Rattle.wasm_normal_form.specs.Roles.{Placed}
-use Rattle.wasm_normal_modules.specs.Modules.{by_types, normal_function, normal_module, normal_origin, retyped_element, retyped_expr, retyped_global, retyped_items, retyped_mode, retyped_origin, retyped_segment, retyped_table, retyped_tag}
+use Rattle.wasm_normal_modules.specs.Modules.{by_types, normal_function, normal_origin, retyped_element, retyped_expr, retyped_global, retyped_items, retyped_mode, retyped_origin, retyped_segment, retyped_table, retyped_tag}
 use Rattle.wasm_operators.specs.Items.{Space, Types, Functions, Tables, Memories, Tags, Globals, ElementSegments, DataSegments, Locals, Labels}
 use Rattle.wasm_operators.specs.NameLaws.{RenamesTwice}
 use Rattle.wasm_operators.specs.Names.{Renaming, renamed_operator}
 use Rattle.wasm_operators.specs.Operators.{Seen}
 use Rattle.wasm_part.specs.Closed.{IsListed}
-use Rattle.wasm_part.specs.Order.{HasDeclared, Holds, InOrder, OwnBefore, Wants, brought_by, import_of}
+use Rattle.wasm_part.specs.Order.{HasDeclared, Holds, InOrder, Wants, brought_by}
 use Rattle.wasm_part.specs.Part.{Plan, declaring, number_in, part, picked, renumbered_body, renumbered_element, renumbered_expr, renumbered_function, renumbered_export, renumbered_global, renumbered_import, renumbered_items, renumbered_mode, renumbered_own, renumbered_placed, renumbered_segment, renumbered_table, renumbered_tag}
 use Rattle.wasm_ruled_modules.specs.Rules.{around_bodies}
 use Rattle.wasm_ruled_normal.specs.Normal.{located, text_of}
 use Rattle.wasm_ruled_renamed.specs.Bodies.{normal_renamed, with_numbers}
 use Rattle.wasm_ruled_renamed.specs.Renamed.{renamed_placed}
 use Rattle.wasm_run_names.specs.Picks.{block_pick}
-use Rattle.walrus_declared_laws.specs.Retyped.{IsRetyped, RetypedPartsAreSame, for_types, retyped_plan}
+use Rattle.walrus_declared_laws.specs.Retyped.{RetypedPartsAreSame, for_types, retyped_plan}
 
 -- ---- slots of images
 

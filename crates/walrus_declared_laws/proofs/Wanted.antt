@@ -1,19 +1,19 @@
 -- Lemmas: what a plan wants and holds.
-use Rattle.std.specs.Prelude.{ℕ, zero, suc, ◌≡◌, ◌+◌, ◌<◌, ◌⊎◌, ◌↔◌, ◌==◌, ◌&&◌, ◌++◌, Bool, true, false, Contains, List, [], ◌∷◌, length, map, Option, Some, None, slice_get, slice_index_or, refl, if◌then◌else◌}
+use Rattle.std.specs.Prelude.{ℕ, zero, suc, ◌≡◌, ◌+◌, ◌⊎◌, ◌==◌, ◌&&◌, ◌++◌, Bool, true, false, List, [], ◌∷◌, length, Option, Some, None, slice_get, slice_index_or, refl, if◌then◌else◌}
 use Rattle.std.specs.List.{flat_map}
-use Rattle.std.proofs.Common.{inl, inr, ap, sym, subst, ◌∙◌, arith}
-use Rattle.std.proofs.lemmas.Bool.{cases_Bool, cases_eq, false≢true, ne_eqb}
+use Rattle.std.proofs.Common.{inl, inr, ap, sym, subst, ◌∙◌}
+use Rattle.std.proofs.lemmas.Bool.{cases_eq, false≢true, ne_eqb}
 use Rattle.std.proofs.lemmas.Option.{get_or_from_slice_get, none-some, same_Some}
 use Rattle.wasm_formats.specs.declared.fault.Space.{Space as FileSpace}
 use Rattle.wasm_formats.specs.declared.fault.Space.TheVariants as spaces
-use Rattle.wasm_grammar.specs.Modules.{Body, Element, Elements, Export, Expr, Expressions, Function, Functions as Listed, Global, Imported, Module, Origin, Own, Placed}
+use Rattle.wasm_grammar.specs.Modules.{Body, Elements, Expr, Expressions, Functions as Listed, Imported, Module, Origin, Own, Placed}
 use Rattle.wasm_operators.specs.Items.{Types, Functions, Tables, Memories, Tags, Globals, ElementSegments, DataSegments, Locals, Labels, Item, Names, Number, S32, S64, Bits, Byte, Bytes, Heap, Block, Access, ManyLabels, ManyValues, ManyClauses}
 use Rattle.wasm_operators.specs.Operators.{Seen, op_code}
 use Rattle.wasm_operators.specs.declared.op_code.OpCode.{OpCode}
 use Rattle.wasm_part.specs.Order.{BodyRefers, Holds, InitRefers, IsReference, ItemsHold, Wants}
 use Rattle.wasm_part.specs.Part.{Plan}
 use Rattle.walrus_types.proofs.Places.{Has, append_at, contains_has, has_contains, left_at, right_at, seat, start, unseat}
-use Rattle.walrus_declared_laws.specs.Wanted.{AreTold, ListsAll, WantsAreTold, element_names, export_names, function_refs, given_out, global_refs, held, held_names, init_refs, is_ref, origin_refs, referred_in, refs, single_refs, wanted}
+use Rattle.walrus_declared_laws.specs.Wanted.{ListsAll, WantsAreTold, element_names, export_names, function_refs, given_out, global_refs, held, held_names, init_refs, is_ref, origin_refs, referred_in, refs, single_refs, wanted}
 
 abbrev pub ref : ℕ → Seen
 ref n = record { code = op_code 0 0xd2; items = Names Functions n ∷ [] }

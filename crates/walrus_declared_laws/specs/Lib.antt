@@ -4,3 +4,4 @@ pub mod Agreed
 pub mod Emitted
 pub mod Wanted
 pub mod Declared
+pub mod Standing

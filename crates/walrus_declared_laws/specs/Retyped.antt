@@ -7,7 +7,6 @@ use Rattle.wasm_grammar.specs.Modules.{Module}
 use Rattle.wasm_merged_modules.specs.Merged.{ids_of, merged_module}
 use Rattle.wasm_normal_modules.specs.Modules.{BringsNoTypes}
 use Rattle.wasm_operators.specs.Items.{Space, Types, Functions, Tables, Memories, Tags, Globals, ElementSegments, DataSegments, Locals, Labels}
-use Rattle.wasm_operators.specs.Names.{Renaming}
 use Rattle.wasm_part.specs.Order.{HasDeclared, InOrder}
 use Rattle.wasm_part.specs.Part.{Plan, part}
 

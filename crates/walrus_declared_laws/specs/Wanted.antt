@@ -1,10 +1,12 @@
 -- The functions to which the bodies and globals of a module refer, and those that its exports and segments hold, as lists (Core Specification, valid modules:
 -- references of `ref.func`).
-use Rattle.std.specs.Prelude.{ℕ, ◌≡◌, ◌↔◌, ◌==◌, ◌&&◌, ◌++◌, Bool, Contains, List, [], ◌∷◌, Option, Some, None, slice_index_or, if◌then◌else◌}
+use Rattle.std.specs.Prelude.{ℕ, ◌≡◌, ◌<◌, ◌↔◌, ◌==◌, ◌&&◌, ◌++◌, Bool, Contains, List, [], ◌∷◌, length, Option, Some, None, slice_index_or, if◌then◌else◌}
 use Rattle.std.specs.List.{flat_map}
+use Rattle.wasm_features.specs.declared.WasmFeatures.{WasmFeatures}
 use Rattle.wasm_formats.specs.declared.fault.Space.{Space as FileSpace}
 use Rattle.wasm_formats.specs.declared.fault.Space.TheVariants as spaces
 use Rattle.wasm_grammar.specs.Modules.{Body, Element, Elements, Export, Expr, Expressions, Function, Functions as Listed, Global, Imported, Module, Origin, Own, Placed}
+use Rattle.wasm_normal_modules.specs.Modules.{MeetsRules}
 use Rattle.wasm_operators.specs.Items.{ElementSegments, Functions, Globals, Item, Names}
 use Rattle.wasm_operators.specs.Operators.{Seen}
 use Rattle.wasm_operators.specs.declared.op_code.OpCode.{OpCode}
@@ -80,3 +82,7 @@ pub record AreTold (p : Plan) (m : Module) : Type 0 where
 
 abbrev pub WantsAreTold : Type 0
 WantsAreTold = (p : Plan) (m : Module) → ListsAll p m → AreTold p m
+
+-- what is wanted of a module that meets the rules is there
+abbrev pub WantedAreThere : Type 0
+WantedAreThere = (features : WasmFeatures) (counted : Bool) (m : Module) (p : Plan) → MeetsRules features counted m → (n : ℕ) → Wants m p n → n < length m.functions

@@ -5,9 +5,13 @@ ghost use Rattle.walrus_declared_laws.specs.Agreed.{AgreeingModulesAreOrdered};
 ghost use Rattle.walrus_declared_laws.specs.Declared.{UndeclaredAreDeclared};
 ghost use Rattle.walrus_declared_laws.specs.Emitted.{EmissionsDeclare};
 ghost use Rattle.walrus_declared_laws.specs.Retyped.{RetypedPartsAreSame};
-ghost use Rattle.walrus_declared_laws.specs.Wanted.{WantsAreTold};
+ghost use Rattle.walrus_declared_laws.specs.Standing.{EmittedPartsStand};
+ghost use Rattle.walrus_declared_laws.specs.Wanted.{WantedAreThere, WantsAreTold};
 
+use walrus_kept_types_laws::laws::{file_types_have_their_indices, read_types_are_written};
+use wasm_normal_modules::laws::normal_forms_of_read_modules_are_ruled;
 use wasm_operators::laws::renamings_compose;
+use wasm_part::laws::parts_agree;
 
 /// A module with a segment that declares functions, which a plan lists last, has by it the part of the module without it to which the plan adds it.
 pub fn last_segments_are_added()
@@ -42,4 +46,25 @@ pub fn undeclared_are_declared<B>()
     ensures { UndeclaredAreDeclared B }
 {
     wants_are_told();
+}
+
+/// The functions to which bodies and globals refer, of a module that meets the rules, are there.
+pub fn wanted_are_there()
+    ensures { WantedAreThere }
+{}
+
+/// What emission writes of a module that was read and of which what isn't kept was deleted: the part of the file's merged module, by a plan of that module, with its
+/// types as they are emitted, in order, with the functions that have to be declared.
+pub fn emitted_parts_stand<B>()
+    ensures { EmittedPartsStand B }
+{
+    read_types_are_written::<B>();
+    file_types_have_their_indices::<B>();
+    emissions_declare();
+    undeclared_are_declared::<B>();
+    agreeing_modules_are_ordered();
+    parts_agree();
+    retyped_parts_are_same();
+    wanted_are_there();
+    normal_forms_of_read_modules_are_ruled();
 }

@@ -10,5 +10,11 @@ mod Found
 mod Types
 mod Handled
 mod Turns
+mod Fit
+mod Functions
+mod Locals
+mod Bare
+mod Context
+mod Sees
 mod Kept
 mod Planned

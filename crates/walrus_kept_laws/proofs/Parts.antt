@@ -155,6 +155,9 @@ module _ (Alike : BlockType → BlockType → Type 0) (Typed : InstrSeqType → 
   abbrev Behind : BlockType → List Line → List Part → Tree → BlockType → Type 0
   Behind w lines ms t u = Back Alike (u ≡ w) (ops_there t) (line_parts b lines ++ types b ms) u
 
+  some_part : (n : Part) (ms : List Part) → n ∷ ms ≡ [] → ⊥
+  some_part n ms e = absurd cc
+
   alone : (x u : BlockType) → In (x ∷ []) u → x ≡ u
   alone x u (inl e) = e
   alone x u (inr h) = absurd h
@@ -163,16 +166,13 @@ module _ (Alike : BlockType → BlockType → Type 0) (Typed : InstrSeqType → 
       (is : block_of (slice_get b n.seq) ≡ own_block own)
       (turn : ((own ≡ ty) × (turn_part a (flow_of o.code) (to o).items w ≡ w ∷ [])) ⊎ ((u : BlockType) × (turn_part a (flow_of o.code) (to o).items w ≡ u ∷ []) × Alike (own_block own) u))
       (inner : Both ty w later ms t) where
-    turn_some : n ∷ ms ≡ [] → ⊥
-    turn_some e = absurd cc
-
     turn_more : (v : BlockType) → In (line_parts b later ++ types b ms) v → Ahead ty w (line ∷ later) (n ∷ ms) (Arm o p t) v
-    turn_more v i = forth_more Alike (line_ops b later) (line_ops b (line ∷ later)) (parts_there w t) (parts_there w (Arm o p t)) v (λ h. (h.0, turn_some)) (λ op j. inr j)
+    turn_more v i = forth_more Alike (line_ops b later) (line_ops b (line ∷ later)) (parts_there w t) (parts_there w (Arm o p t)) v (λ h. (h.0, some_part n ms)) (λ op j. inr j)
         (λ x j. in_right (turn_part a (flow_of o.code) (to o).items w) (parts_there w t) x j) (inner.forth v i)
 
     turn_new : (v : BlockType) → block_of (slice_get b n.seq) ≡ v → Ahead ty w (line ∷ later) (n ∷ ms) (Arm o p t) v
     turn_new v e = elim turn as (λ _. Ahead ty w (line ∷ later) (n ∷ ms) (Arm o p t) v) [
-      | inl h ↦ its_own (sym e ∙ is ∙ ap own_block h.0, turn_some)
+      | inl h ↦ its_own (sym e ∙ is ∙ ap own_block h.0, some_part n ms)
       | inr h ↦ stands_for h.0 (in_left (turn_part a (flow_of o.code) (to o).items w) (parts_there w t) h.0 (subst (λ (l : List BlockType). In l h.0) (sym h.1) (inl refl)))
           (subst (λ (z : BlockType). Alike z h.0) (sym is ∙ e) h.2)
     ]
@@ -263,7 +263,7 @@ module _ (Alike : BlockType → BlockType → Type 0) (Typed : InstrSeqType → 
     }
 
   pub walked : (t : Tree) (around : List ℕ) (k : ℕ) (ty : InstrSeqType) (w : BlockType) (met : ℕ → Bool) (is : List (Instr × InstrLocId)) (e : InstrLocId) (ms : List Part) (f : Finish) (done : ℕ → Bool)
-      → RunsFit features t → Typed ty w → AllRanked rank (children_in is) → AllRanked rank (seqs_in ms) → lies (meaning s) t (map seq_of b) around k ty met is e ms f done
+      → RunsFit features t → ((ms ≡ [] → ⊥) → Typed ty w) → AllRanked rank (children_in is) → AllRanked rank (seqs_in ms) → lies (meaning s) t (map seq_of b) around k ty met is e ms f done
       → Both ty w (rest b around k is e ms f) ms t
   walked (Close o p) around k ty w met [] e [] f done fits typed ri rm h = record {
     forth = λ v i. absurd (none v (subst (λ (l : List BlockType). In ((l ++ []) ++ []) v) (piece_plain b [] f) i));
@@ -279,11 +279,11 @@ module _ (Alike : BlockType → BlockType → Type 0) (Typed : InstrSeqType → 
       let y = seen_at b n.seq x found in
       let lie_in = subst (λ (z : Seq). lies (meaning s) t (map seq_of b) around n.seq ty (with n.seq met) z.instrs z.end ms f done) y.2 lie in
       let later = rest b around n.seq y.0.instrs.items y.0.end ms f in
-      let inner : Both ty w later ms t = walked t around n.seq ty w (with n.seq met) y.0.instrs.items y.0.end ms f done fits typed (held b rank is_rank n.seq y.0 rm.0 y.1) rm.1 lie_in in
+      let inner : Both ty w later ms t = walked t around n.seq ty w (with n.seq met) y.0.instrs.items y.0.end ms f done fits (λ none. typed (some_part n ms)) (held b rank is_rank n.seq y.0 rm.0 y.1) rm.1 lie_in in
       let line : Line = (turn_piece n.turn, e) in
       let text : rest b around k [] e (n ∷ ms) f ≡ line ∷ later = ap (λ (l : List Line). line ∷ l) (seq_text plain b rank is_rank around n.seq y.0 ms f rm.0 y.1) in
       let own : block_of (slice_get b n.seq) ≡ own_block x.ty = ap block_of y.1 ∙ ap (λ (z : Seq). own_block z.ty) (sym y.2) in
-      again ty w (line ∷ later) (rest b around k [] e (n ∷ ms) f) (n ∷ ms) (Arm o p t) text (turned o p t ty x.ty w n ms line later (piece_plain b (n ∷ ms) f) own (turns_typed ty x.ty w o n.turn typed turns) inner)
+      again ty w (line ∷ later) (rest b around k [] e (n ∷ ms) f) (n ∷ ms) (Arm o p t) text (turned o p t ty x.ty w n ms line later (piece_plain b (n ∷ ms) f) own (turns_typed ty x.ty w o n.turn (typed (some_part n ms)) turns) inner)
   walked (Arm o p t) around k ty w met (i ∷ is) e ms f done fits typed ri rm h = absurd h
   walked (Skip o p t) around k ty w met [] e [] f done fits typed ri rm h = absurd h
   walked (Skip o p t) around k ty w met [] e (n ∷ ms) f done fits typed ri rm h = absurd h
@@ -314,7 +314,7 @@ module _ (Alike : BlockType → BlockType → Type 0) (Typed : InstrSeqType → 
       let block = rest b (k ∷ around) q.first y.0.instrs.items y.0.end q.more q.finish in
       let later = rest b around k is e ms f in
       let inner : Both x.ty (opened_with (to o).items) block q.more u =
-      walked u (k ∷ around) q.first x.ty (opened_with (to o).items) (with q.first met) y.0.instrs.items y.0.end q.more q.finish half fits.0 ot.0 (held b rank is_rank q.first y.0 ranks.0 y.1) ranks.1 lie_in in
+      walked u (k ∷ around) q.first x.ty (opened_with (to o).items) (with q.first met) y.0.instrs.items y.0.end q.more q.finish half fits.0 (λ none. ot.0) (held b rank is_rank q.first y.0 ranks.0 y.1) ranks.1 lie_in in
       let outer : Both ty w later ms t = walked t around k ty w half is e ms f done fits.1 typed split.1 rm lie in
       let line : Line = (Operator (k ∷ around) i.0, i.1) in
       let text : rest b around k (i ∷ is) e ms f ≡ line ∷ (block ++ later) = first_text b around k i is e ms f block (block_text plain b rank is_rank (k ∷ around) g i.0 q y.0 makes ranks.0 y.1) in

@@ -2,6 +2,9 @@
 
 ghost use Rattle.wasm_spelled_parts_laws.specs.Customs.{WrittenCustomsAreInOrder};
 ghost use Rattle.wasm_spelled_parts_laws.specs.Dense.{WrittenGroupsAreWritten, WrittenPartsAreDense};
+ghost use Rattle.wasm_spelled_parts_laws.specs.Items.{ReadItemsAreIn};
+ghost use Rattle.wasm_spelled_parts_laws.specs.Merged.{MergedItemsAreIn};
+ghost use Rattle.wasm_spelled_parts_laws.specs.Operators.{FittingNamesAreSmall, FittingOperatorsAreSpelled, RenamedOperatorsFit};
 ghost use Rattle.wasm_spelled_parts_laws.specs.Ruled.{CountedPartsAreRuled};
 
 /// The custom sections that are written of a file stand in their order (Core Specification, binary format: custom section).
@@ -29,4 +32,37 @@ pub fn counted_parts_are_ruled()
 {
     wasm_operators::laws::names_are_renamed();
     wasm_rewritten::laws::written_parts_are_ruled();
+}
+
+/// An operator within the ranges of its immediates stays there where what it names has new numbers within theirs (Core Specification, binary format: instructions).
+pub fn renamed_operators_fit()
+    ensures { RenamedOperatorsFit }
+{}
+
+/// Such an operator names numbers of 32 bits.
+pub fn fitting_names_are_small()
+    ensures { FittingNamesAreSmall }
+{}
+
+/// Such an operator has a spelling.
+pub fn fitting_operators_are_spelled()
+    ensures { FittingOperatorsAreSpelled }
+{}
+
+/// The items of what is read are within the limits of their formats.
+pub fn read_items_are_in()
+    ensures { ReadItemsAreIn }
+{
+    wasm_spelled_modules::laws::read_sections_are_spelled();
+}
+
+/// So are those of a file's module in normal form, with its types merged and those of its handlers behind them.
+pub fn merged_items_are_in()
+    ensures { MergedItemsAreIn }
+{
+    wasm_merged_modules::laws::types_are_merged();
+    wasm_normal_modules::laws::normal_forms_of_read_modules_are_ruled();
+    wasm_ruled_modules::laws::read_modules_are_ruled();
+    fitting_names_are_small();
+    renamed_operators_fit();
 }
