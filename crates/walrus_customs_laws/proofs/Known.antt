@@ -1,5 +1,5 @@
 -- Lemmas: the ids of a function's locals, and those that its body names.
-use Rattle.std.specs.Prelude.{ℕ, zero, suc, ◌≡◌, ◌≤◌, ◌<◌, ◌+◌, ◌==◌, ◌||◌, ◌&&◌, ◌↔◌, ◌⊎◌, Bool, true, false, not, List, [], ◌∷◌, ◌++◌, Contains, length, map, replicate, Option, Some, None, slice_get, refl, if◌then◌else◌}
+use Rattle.std.specs.Prelude.{ℕ, zero, suc, ◌≡◌, ◌≤◌, ◌<◌, ◌+◌, ◌==◌, ◌||◌, ◌&&◌, ◌⊎◌, Bool, true, false, not, List, [], ◌∷◌, ◌++◌, length, map, Option, Some, None, slice_get, refl, if◌then◌else◌}
 use Rattle.std.specs.List.{AllByRecursion, filter}
 use Rattle.std.specs.declared.alloc.Global.{Global}
 use Rattle.std.specs.declared.vec.Vec.{Vec}
@@ -14,16 +14,15 @@ use Rattle.walrus_index_maps.specs.Maps.{Indices}
 use Rattle.walrus_items.specs.declared.local.Local.{Local}
 use Rattle.walrus_tree.specs.Trees.{AreDistinct, Has}
 use Rattle.walrus_local_function.specs.declared.local_function.LocalFunction.{LocalFunction}
-use Rattle.walrus_local_numbers.specs.Declared.{declared, has_number, local_ids as declared_ids}
-use Rattle.walrus_meaning.specs.Bodies.{local_ids, named_locals, own_operators, used_locals}
+use Rattle.walrus_local_numbers.specs.Declared.{has_number, local_ids as declared_ids}
+use Rattle.walrus_meaning.specs.Bodies.{local_ids, named_locals, own_operators}
 use Rattle.walrus_module_items.specs.declared.function.Function.{Function}
 use Rattle.walrus_emit_code.specs.Code.{bodies_numbers}
 use Rattle.walrus_emit_numbers.specs.declared.facts.BodyFacts.{BodyFacts}
 use Rattle.walrus_parse_gc_laws.specs.Numbers.{AreUsed, UsedLocalsAreMeant}
-use Rattle.walrus_customs_laws.specs.Items.{Lists}
 use Rattle.walrus_customs_laws.specs.Kept.{KnowsLocals}
 use Rattle.walrus_customs_laws.specs.Known.{BodiesAreKnown, HasFacts}
-use Rattle.walrus_customs_laws.specs.Locals.{ArePlaces, LocalsAreNumbered, used_name}
+use Rattle.walrus_customs_laws.specs.Locals.{ArePlaces, LocalsAreNumbered}
 use Rattle.walrus_customs_laws.specs.ReadLocals.{AreNamed}
 
 abbrev numbers : List Key → List ℕ

@@ -10,3 +10,4 @@ mod Bound
 mod ReadLocals
 mod Kept
 mod Known
+mod Stays

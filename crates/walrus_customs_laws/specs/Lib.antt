@@ -7,3 +7,4 @@ pub mod Read
 pub mod ReadLocals
 pub mod Kept
 pub mod Known
+pub mod Stays

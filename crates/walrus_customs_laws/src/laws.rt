@@ -8,6 +8,7 @@ ghost use Rattle.walrus_customs_laws.specs.Payloads.{NamesAreSpelled, ProducersA
 ghost use Rattle.walrus_customs_laws.specs.Read.{ReadNamesAreLast};
 ghost use Rattle.walrus_customs_laws.specs.ReadLocals.{ReadLocalNamesAreLast};
 ghost use Rattle.walrus_customs_laws.specs.Sections.{CustomsAreSpelled, ReadCustomsAreSpelled};
+ghost use Rattle.walrus_customs_laws.specs.Stays.{DeclaringKeepsNames, PartsKeepNames};
 ghost use Rattle.walrus_customs_laws.specs.There.{NamesAreThere};
 
 use walrus_parse_gc_laws::numbers::used_locals_are_meant;
@@ -95,3 +96,13 @@ pub fn bodies_are_known()
     used_locals_are_meant();
     locals_are_numbered();
 }
+
+/// What lives in a part of a module that is kept lived in the module, by its name.
+pub fn parts_keep_names()
+    ensures { PartsKeepNames }
+{}
+
+/// What lives in a module has its name where a segment that declares functions was added.
+pub fn declaring_keeps_names()
+    ensures { DeclaringKeepsNames }
+{}
