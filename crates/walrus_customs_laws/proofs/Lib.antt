@@ -11,3 +11,4 @@ mod ReadLocals
 mod Kept
 mod Known
 mod Stays
+mod Parted

@@ -1,11 +1,11 @@
 -- Lemmas: an item that is where it was has its name.
-use Rattle.std.specs.Prelude.{ℕ, zero, suc, ◌≡◌, false, true, List, [], ◌∷◌, ◌++◌, IsSome, Option, Some, None, slice_index_or, refl}
+use Rattle.std.specs.Prelude.{ℕ, zero, suc, ◌≡◌, List, [], ◌∷◌, ◌++◌, IsSome, Option, Some, None, slice_index_or, refl}
 use Rattle.std.specs.Option.{option_and_then}
 use Rattle.std.proofs.Common.{ap, sym, ◌∙◌, subst}
 use Rattle.std.proofs.lemmas.Bool.{false≢true}
 use Rattle.wasm_formats.specs.declared.fault.Space.{Space}
 use Rattle.wasm_formats.specs.declared.fault.Space.TheVariants as spaces
-use Rattle.walrus_arena.specs.Arena.{Arena, IsLive, item_at}
+use Rattle.walrus_arena.specs.Arena.{item_at}
 use Rattle.walrus_module.specs.Parts.{Module}
 use Rattle.walrus_module_items.specs.declared.data.Data.{Data}
 use Rattle.walrus_module_items.specs.declared.element.Element.{Element}

@@ -8,3 +8,4 @@ pub mod ReadLocals
 pub mod Kept
 pub mod Known
 pub mod Stays
+pub mod Parted

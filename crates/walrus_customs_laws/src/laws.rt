@@ -4,6 +4,7 @@ ghost use Rattle.walrus_customs_laws.specs.Items.{ItemNamesAreListed};
 ghost use Rattle.walrus_customs_laws.specs.Kept.{NamesAreKept};
 ghost use Rattle.walrus_customs_laws.specs.Known.{BodiesAreKnown};
 ghost use Rattle.walrus_customs_laws.specs.Locals.{LocalNamesAreListed, LocalsAreNumbered, UsedNamesAreListed};
+ghost use Rattle.walrus_customs_laws.specs.Parted.{CustomsAreParted, PayloadsAreSpelled};
 ghost use Rattle.walrus_customs_laws.specs.Payloads.{NamesAreSpelled, ProducersAreSpelled};
 ghost use Rattle.walrus_customs_laws.specs.Read.{ReadNamesAreLast};
 ghost use Rattle.walrus_customs_laws.specs.ReadLocals.{ReadLocalNamesAreLast};
@@ -106,3 +107,16 @@ pub fn parts_keep_names()
 pub fn declaring_keeps_names()
     ensures { DeclaringKeepsNames }
 {}
+
+/// Of the custom sections of a file rewritten those of dynamic linking stand first; behind them names and producers, and then the others of the file.
+pub fn customs_are_parted()
+    ensures { CustomsAreParted }
+{}
+
+/// Sections of names and producers that can be written, as a module's flags ask for them, are the shortest spelling of the custom sections of their payloads.
+pub fn payloads_are_spelled<B>()
+    ensures { PayloadsAreSpelled B }
+{
+    names_are_spelled();
+    producers_are_spelled();
+}
