@@ -1,10 +1,10 @@
 -- Lemmas: tables and memories of a module that was read list no segments themselves.
-use Rattle.std.specs.Prelude.{ℕ, zero, suc, ◌≡◌, List, [], ◌∷◌, ◌++◌, map, Contains, Option, Some, None, slice_index_or, refl}
+use Rattle.std.specs.Prelude.{ℕ, zero, suc, ◌≡◌, List, [], ◌∷◌, map, Contains, Option, Some, None, slice_index_or, refl}
 use Rattle.std.specs.HashSet.{keys}
 use Rattle.std.specs.Option.{option_map}
 use Rattle.std.proofs.Common.{ap, sym, ◌∙◌, subst, arith}
 use Rattle.std.proofs.lemmas.Option.{none-some, same_Some}
-use Rattle.walrus_arena.specs.Arena.{Arena, item_at}
+use Rattle.walrus_arena.specs.Arena.{item_at}
 use Rattle.walrus_config.specs.declared.config.ModuleConfig.{ModuleConfig}
 use Rattle.walrus_index_maps.specs.Maps.{Ids}
 use Rattle.walrus_module.specs.declared.module.Module.{Module as Whole}

@@ -10,7 +10,7 @@ use Rattle.walrus_forms.specs.Renaming.{renamed_kind}
 use Rattle.walrus_forms.specs.Same.{SameKindIsEquality, same_kind}
 use Rattle.walrus_forms.proofs.RenamingLemmas.{In, kinds-agree}
 use Rattle.walrus_types.specs.Items.{Item}
-use Rattle.walrus_types.specs.Table.{Table, found_type, latest_id, type_at}
+use Rattle.walrus_types.specs.Table.{Table, found_type, type_at}
 use Rattle.walrus_types.specs.TypeLaws.{FindsLatest, IsLatest}
 use Rattle.wasm_body_grammar.specs.Rules.{found_in, latest_from, leads, serves}
 use Rattle.wasm_merged_modules.specs.Merged.{AreNew}

@@ -16,5 +16,6 @@ mod Locals
 mod Bare
 mod Context
 mod Sees
+mod Bodies
 mod Kept
 mod Planned

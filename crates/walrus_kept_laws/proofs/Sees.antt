@@ -3,7 +3,7 @@ use Rattle.std.specs.Prelude.{ℕ, zero, suc, ◌≡◌, ◌<◌, true, List, []
 use Rattle.std.specs.Option.{option_map}
 use Rattle.std.proofs.Common.{ap, sym, ◌∙◌, subst}
 use Rattle.std.proofs.lemmas.Option.{none-some, same_Some}
-use Rattle.walrus_arena.specs.Arena.{Arena, item_at}
+use Rattle.walrus_arena.specs.Arena.{item_at}
 use Rattle.walrus_forms.specs.Renaming.{at}
 use Rattle.walrus_forms.specs.Same.{SameKindIsEquality}
 use Rattle.walrus_index_maps.specs.Maps.{Ids}
@@ -31,7 +31,7 @@ use Rattle.walrus_parse_laws.specs.Means.{Sees, types_in}
 use Rattle.walrus_parse_gc_laws.specs.Numbered.{numbered}
 use Rattle.walrus_kept_types_laws.specs.Read.{AreReadOf}
 use Rattle.walrus_kept_laws.proofs.Context as context
-use Rattle.walrus_kept_laws.proofs.Left.{slot_at, slot_of}
+use Rattle.walrus_kept_laws.proofs.Left.{slot_at}
 use Rattle.walrus_kept_laws.proofs.Turns.{SeesAlike}
 
 at_is : (xs : List ℕ) (n id : ℕ) → slice_get xs n ≡ Some id → slice_index xs n ≡ id

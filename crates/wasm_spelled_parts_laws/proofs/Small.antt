@@ -172,12 +172,12 @@ module _ (features : WasmFeatures) where
   item_small values x b h = made ManyValues x h.0 h.1 (list_small value_bytes (ValueFits features) value_small h.0 h.2)
   item_small clauses x b h = made ManyClauses x h.0 h.1 (list_small clause_bytes ClauseFits clause_small h.0 h.2)
 
-  items_small : (forms : List Form) (xs : List Item) → AllByRecursion IsOfBytes forms → ItemsFit features forms xs → AreBytes (flat_map item_bytes xs)
+  pub items_small : (forms : List Form) (xs : List Item) → AllByRecursion IsOfBytes forms → ItemsFit features forms xs → AreBytes (flat_map item_bytes xs)
   items_small [] xs b h = subst (λ (xs : List Item). AreBytes (flat_map item_bytes xs)) (sym h) tt
   items_small (form ∷ forms) xs b h =
       subst (λ (xs : List Item). AreBytes (flat_map item_bytes xs)) (sym h.2) (bytes_joined (item_bytes h.0) (flat_map item_bytes h.1) (item_small form h.0 b.0 h.3) (items_small forms h.1 b.1 h.4))
 
-  kind_bytes : (kind : Kind) → AllByRecursion IsOfBytes (forms kind)
+  pub kind_bytes : (kind : Kind) → AllByRecursion IsOfBytes (forms kind)
   kind_bytes immediates.Bare = tt
   kind_bytes immediates.Block = (tt, tt)
   kind_bytes immediates.TryTable = (tt, (tt, tt))
@@ -224,7 +224,7 @@ module _ (features : WasmFeatures) where
       below_256 true false e is = absurd cc
       below_256 false false e is = absurd cc
 
-  code_small : (code : OpCode) → SpellsCode (code_bytes code) code → AreBytes (code_bytes code)
+  pub code_small : (code : OpCode) → SpellsCode (code_bytes code) code → AreBytes (code_bytes code)
   code_small code (inl h) = rw h.1 (low code.number, tt)
     where
       low : (n : ℕ) → n % 256 < 256
