@@ -7,9 +7,7 @@ use Rattle.wasm_formats.specs.declared.fault.Space.{Space}
 use Rattle.wasm_formats.specs.declared.fault.Space.TheVariants as spaces
 use Rattle.wasm_rewritten.specs.Customs.{names_from}
 use Rattle.walrus_arena.specs.Arena.{Arena, entries_from, item_at}
-use Rattle.walrus_index_maps.specs.Maps.{Indices}
 use Rattle.walrus_linked.specs.OwnIds.{HaveOwnIds}
-use Rattle.walrus_module.specs.Parts.{Module}
 use Rattle.walrus_module_items.specs.declared.data.Data.{Data}
 use Rattle.walrus_module_items.specs.declared.element.Element.{Element}
 use Rattle.walrus_module_items.specs.declared.function.Function.{Function}
@@ -17,10 +15,9 @@ use Rattle.walrus_module_items.specs.declared.global.Global.{Global}
 use Rattle.walrus_module_items.specs.declared.memory.Memory.{Memory}
 use Rattle.walrus_module_items.specs.declared.table.Table.{Table}
 use Rattle.walrus_module_items.specs.declared.tag.Tag.{Tag}
-use Rattle.walrus_types.specs.declared.emit.EmittedTypes.{EmittedTypes}
-use Rattle.walrus_emit_customs.specs.Names.{item_names, names_in, text, type_entry, type_name}
-use Rattle.walrus_customs_laws.specs.Items.{ItemNamesAreListed, Lists, ListsNamed, NamedHaveOwnIds, name_in, number_in}
-use Rattle.walrus_customs_laws.proofs.Listed.{AreListed, In, Once, in_turn, listed}
+use Rattle.walrus_emit_customs.specs.Names.{item_names, names_in, text, type_entry}
+use Rattle.walrus_customs_laws.specs.Items.{ItemNamesAreListed, Lists, name_in, number_in}
+use Rattle.walrus_customs_laws.proofs.Listed.{In, Once, in_turn, listed}
 
 -- ---- the items of slots
 

@@ -2,7 +2,7 @@
 use Rattle.std.specs.Prelude.{ℕ, zero, suc, ◌≡◌, ◌+◌, false, true, List, [], ◌∷◌, ◌++◌, length, map, Option, Some, None, slice_get, slice_index_or, refl}
 use Rattle.std.specs.List.{AllByRecursion}
 use Rattle.std.specs.Option.{option_map}
-use Rattle.std.proofs.Common.{ap, sym, ◌∙◌, subst, arith}
+use Rattle.std.proofs.Common.{ap, sym, ◌∙◌, arith}
 use Rattle.wasm_formats.specs.declared.fault.Space.{Space}
 use Rattle.wasm_formats.specs.declared.fault.Space.TheVariants as spaces
 use Rattle.wasm_features.specs.declared.WasmFeatures.{WasmFeatures}
@@ -11,31 +11,29 @@ use Rattle.wasm_grammar.specs.Modules as grammar
 use Rattle.wasm_body_grammar.specs.Codes.{param_count}
 use Rattle.wasm_body_grammar.specs.Rules.{Around}
 use Rattle.wasm_name_payloads.specs.Names.{ALocal, AnItem}
-use Rattle.wasm_name_payloads.specs.Written.{NameMap, Names}
+use Rattle.wasm_name_payloads.specs.Written.{NameMap}
 use Rattle.wasm_ruled_modules.specs.Rules.{around_bodies}
 use Rattle.wasm_part.specs.Part.{Plan}
-use Rattle.wasm_rewritten.specs.Customs.{function_if, item_names, listed_in, local_names as file_locals, name_read, named_if, names_from, names_kept, origin_names, slot_names}
-use Rattle.walrus_arena.specs.Arena.{item_at}
+use Rattle.wasm_rewritten.specs.Customs.{function_if, listed_in, local_names as file_locals, name_read, named_if, names_from, names_kept, origin_names, slot_names}
 use Rattle.walrus_config.specs.declared.config.ModuleConfig.{ModuleConfig}
 use Rattle.walrus_index_maps.specs.Maps.{Ids, Indices}
 use Rattle.walrus_items.specs.declared.local.Local.{Local}
 use Rattle.walrus_local_function.specs.declared.local_function.LocalFunction.{LocalFunction}
 use Rattle.walrus_meaning.specs.Meaning.{own_function, own_origin}
-use Rattle.walrus_module.specs.Parts.{Module, parts}
+use Rattle.walrus_module.specs.Parts.{Module}
 use Rattle.walrus_module.specs.declared.module.Module.{Module as Whole}
 use Rattle.walrus_module_items.specs.Functions.{local_of}
-use Rattle.walrus_module_items.specs.declared.function.Function.{Function}
 use Rattle.walrus_module_items.specs.declared.function.FunctionKind.{FunctionKind}
 use Rattle.walrus_module_items.specs.declared.function.FunctionKind.TheVariants as kinds
 use Rattle.walrus_types.specs.declared.emit.EmittedTypes.{EmittedTypes}
 use Rattle.walrus_named_bodies.specs.Parsed.{read_features}
 use Rattle.walrus_emit_numbers.specs.declared.facts.BodyFacts.{BodyFacts}
-use Rattle.walrus_emit_customs.specs.Names.{local_names, names, names_in, text, used_names}
+use Rattle.walrus_emit_customs.specs.Names.{local_names, names, names_in, used_names}
 use Rattle.walrus_parse_laws.specs.Meant.{function_meant, origin_meant, picks}
 use Rattle.walrus_parse_laws.specs.Means.{MeansFile}
 use Rattle.walrus_customs_laws.specs.Items.{ItemNamesAreListed, name_in}
 use Rattle.walrus_customs_laws.specs.Kept.{IsBrought, KnowsLocals, NamesAreKept, WritesNames}
-use Rattle.walrus_customs_laws.specs.Locals.{IsBodyOf, LocalNamesAreListed, UsedNamesAreListed, locals_from, used_name}
+use Rattle.walrus_customs_laws.specs.Locals.{LocalNamesAreListed, UsedNamesAreListed, locals_from}
 use Rattle.walrus_customs_laws.specs.Read.{ReadNamesAreLast}
 use Rattle.walrus_customs_laws.specs.ReadLocals.{AreFew, ReadLocalNamesAreLast}
 use Rattle.walrus_customs_laws.proofs.ReadLocals.{from_slot, seen_slot, some_one}

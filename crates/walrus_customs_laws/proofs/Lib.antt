@@ -9,3 +9,6 @@ mod Read
 mod Bound
 mod ReadLocals
 mod Kept
+mod Known
+mod Stays
+mod Parted

@@ -1,28 +1,20 @@
 -- Lemmas: locals have their places as their numbers.
-use Rattle.std.specs.Prelude.{ℕ, zero, suc, ◌≡◌, ◌+◌, ◌<◌, ◌==◌, ◌&&◌, ◌||◌, Bool, true, false, List, [], ◌∷◌, ◌++◌, length, map, Option, Some, None, slice_get, if◌then◌else◌, nat_lt, refl}
-use Rattle.std.specs.List.{AllByRecursion, flat_map, fold}
+use Rattle.std.specs.Prelude.{ℕ, suc, ◌≡◌, ◌+◌, ◌==◌, ◌||◌, Bool, true, false, List, [], ◌∷◌, ◌++◌, length, map, Option, Some, None, slice_get, if◌then◌else◌, refl}
+use Rattle.std.specs.List.{AllByRecursion}
 use Rattle.std.specs.List.Sorted.{IsStrictlySortedBy}
 use Rattle.std.specs.Ordering.{nat_cmp}
-use Rattle.std.specs.declared.cmp.Ordering.{Ordering}
 use Rattle.std.specs.declared.cmp.Ordering.TheVariants.{Less, Equal, Greater}
 use Rattle.std.proofs.Common.{ap, sym, ◌∙◌, subst, arith, inl, inr}
 use Rattle.std.proofs.lemmas.Bool.{eqb-true, eq-eqb, false≢true, le-ltb}
 use Rattle.wasm_name_payloads.specs.Written.{NameMap}
-use Rattle.wasm_rewritten.specs.Customs.{function_if, names_from}
-use Rattle.walrus_arena.specs.Arena.{Arena, item_at}
-use Rattle.walrus_index_maps.specs.Maps.{Indices, with_local}
+use Rattle.wasm_rewritten.specs.Customs.{function_if}
+use Rattle.walrus_index_maps.specs.Maps.{Indices}
 use Rattle.walrus_items.specs.declared.local.Local.{Local}
-use Rattle.walrus_tree.specs.Trees.{AreDistinct}
-use Rattle.walrus_local_function.specs.declared.local_function.LocalFunction.{LocalFunction}
-use Rattle.walrus_local_numbers.specs.Declared.{has_number, local_ids, with_numbers}
-use Rattle.walrus_module_items.specs.Functions.{local_of}
-use Rattle.walrus_module_items.specs.declared.function.Function.{Function}
+use Rattle.walrus_local_numbers.specs.Declared.{has_number}
 use Rattle.walrus_emit_numbers.specs.declared.facts.BodyFacts.{BodyFacts}
-use Rattle.walrus_emit_code.specs.Code.{bodies_numbers, body_numbers, kind_numbers, slot_numbers, with_locals}
-use Rattle.walrus_emit_customs.specs.Names.{body_names, entry, function_names, local_name, local_names, used_names}
-use Rattle.walrus_customs_laws.specs.Items.{Lists}
-use Rattle.walrus_customs_laws.specs.Locals.{ArePlaces, IsBodyOf, LocalNamesAreListed, LocalsAreNumbered, UsedNamesAreListed, locals_from, used_name}
-use Rattle.walrus_customs_laws.proofs.Listed.{AreListed, In, Once, listed}
+use Rattle.walrus_emit_customs.specs.Names.{function_names, local_name, local_names, used_names}
+use Rattle.walrus_customs_laws.specs.Locals.{LocalNamesAreListed, UsedNamesAreListed, locals_from, used_name}
+use Rattle.walrus_customs_laws.proofs.Listed.{In, Once, listed}
 
 -- ---- numbers in a list
 

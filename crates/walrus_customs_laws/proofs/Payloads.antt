@@ -1,5 +1,5 @@
 -- Lemmas: a custom section of names or of producers.
-use Rattle.std.specs.Prelude.{ℕ, ◌≡◌, ◌+◌, ◌<◌, ◌≤◌, ◌^◌, List, [], ◌∷◌, ◌++◌, length, map, if◌then◌else◌, Bool, true, false, refl}
+use Rattle.std.specs.Prelude.{ℕ, ◌≡◌, ◌<◌, ◌≤◌, List, [], ◌∷◌, ◌++◌, length, map, if◌then◌else◌, Bool, true, false, refl}
 use Rattle.std.specs.List.{flat_map}
 use Rattle.std.specs.Str.{bytes_eq}
 use Rattle.std.proofs.Common.{ap, sym, ◌∙◌, arith, inl, inr}
@@ -12,7 +12,7 @@ use Rattle.wasm_grammar.specs.Modules.{Custom}
 use Rattle.wasm_grammar.specs.States.{nothing_yet}
 use Rattle.wasm_name_payloads.specs.Names.{section_name}
 use Rattle.wasm_name_payloads.specs.Producers.{Field, processed, processed_by, version, walrus, with_entry, with_value, section_name as producers_name}
-use Rattle.wasm_name_payloads.specs.Written.{Names, field_bytes, name_bytes, payload_bytes, producers_bytes}
+use Rattle.wasm_name_payloads.specs.Written.{field_bytes, name_bytes, payload_bytes, producers_bytes}
 use Rattle.wasm_section_bytes.specs.Files.{entry_bytes}
 use Rattle.wasm_section_bytes.specs.Segments.{sized_bytes}
 use Rattle.wasm_canonical.specs.Due.{custom_due}
@@ -22,7 +22,7 @@ use Rattle.walrus_payload_writers.specs.Producers.{producers_section}
 use Rattle.walrus_payload_writers.specs.Sections.{names_section, section_of as custom_of}
 use Rattle.walrus_payload_writers.specs.Writes.{custom_bytes}
 use Rattle.walrus_payload_writers.proofs.Numbers.{u32_is}
-use Rattle.walrus_due_laws.specs.Spelled.{SpelledAs, spelled}
+use Rattle.walrus_due_laws.specs.Spelled.{spelled}
 use Rattle.walrus_due_laws.proofs.Parts.{plain, turned}
 use Rattle.walrus_customs_laws.specs.Payloads.{Fits, NamesAreSpelled, ProducersAreSpelled}
 

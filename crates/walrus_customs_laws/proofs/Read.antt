@@ -1,13 +1,12 @@
 -- Lemmas: the last name that was given to an id is the last that was read for its number.
-use Rattle.std.specs.Prelude.{ℕ, zero, suc, ◌≡◌, ◌+◌, ◌<◌, ◌==◌, ◌&&◌, Bool, true, false, List, [], ◌∷◌, ◌++◌, IfSome, IsSome, length, map, Option, Some, None, slice_get, slice_index, if◌then◌else◌, refl}
-use Rattle.std.specs.List.{AllByRecursion, flat_map}
+use Rattle.std.specs.Prelude.{ℕ, zero, suc, ◌≡◌, ◌<◌, ◌==◌, ◌&&◌, Bool, false, List, [], ◌∷◌, ◌++◌, IfSome, IsSome, length, map, Option, Some, None, slice_get, slice_index, if◌then◌else◌, refl}
+use Rattle.std.specs.List.{AllByRecursion}
 use Rattle.std.specs.Option.{option_and_then, option_map}
-use Rattle.std.proofs.Common.{ap, sym, ◌∙◌, subst, arith, inl, inr}
+use Rattle.std.proofs.Common.{ap, sym, ◌∙◌, arith, inl, inr}
 use Rattle.std.proofs.lemmas.Bool.{cases_lt, false≢true}
 use Rattle.std.proofs.lemmas.List.{length-append}
 use Rattle.wasm_formats.specs.declared.fault.Space.{Space}
 use Rattle.wasm_formats.specs.declared.fault.Space.TheVariants as spaces
-use Rattle.walrus_forms.specs.Kinds.{Kind}
 use Rattle.walrus_forms.specs.Renaming.{at}
 use Rattle.wasm_grammar.specs.Modules as grammar
 use Rattle.wasm_grammar.specs.States.{count_of, types_of}
@@ -18,8 +17,7 @@ use Rattle.walrus_config.specs.declared.config.ModuleConfig.{ModuleConfig}
 use Rattle.walrus_index_maps.specs.Maps.{Ids}
 use Rattle.walrus_sections_into.specs.Numbers.{upto}
 use Rattle.walrus_payloads_into.specs.Numbered.{ids_in, locals_in}
-use Rattle.walrus_item_names.specs.Sent.{given_if, sent, sent_name, sent_names}
-use Rattle.walrus_item_names.specs.Names.{name_at}
+use Rattle.walrus_item_names.specs.Sent.{given_if, sent_name, sent_names}
 use Rattle.walrus_module.specs.Parts.{parts}
 use Rattle.walrus_module.specs.declared.module.Module.{Module as Whole}
 use Rattle.walrus_module_items.specs.declared.data.Data.{Data}
@@ -34,7 +32,7 @@ use Rattle.walrus_types.specs.Table.{type_at}
 use Rattle.walrus_arena.specs.Arena.{item_at}
 use Rattle.walrus_named_bodies.specs.Named.{all_names}
 use Rattle.walrus_emit_customs.specs.Names.{text}
-use Rattle.walrus_parse_laws.specs.Means.{HasNames, MeansFile, holder_of, names_in}
+use Rattle.walrus_parse_laws.specs.Means.{MeansFile, holder_of, names_in}
 use Rattle.walrus_customs_laws.specs.Items.{name_in}
 use Rattle.walrus_customs_laws.specs.Read.{LivesIn, NamesAreLast, ReadNamesAreLast}
 use Rattle.walrus_customs_laws.specs.There.{IsThere, NamesAreThere}

@@ -1,9 +1,9 @@
 -- Lemmas: the locals of a body that was read, and their names.
-use Rattle.std.specs.Prelude.{ℕ, zero, suc, ◌≡◌, ◌≢◌, ◌⊎◌, ◌+◌, ◌<◌, ◌≤◌, ◌==◌, ◌&&◌, ◌||◌, not, Bool, true, false, List, [], ◌∷◌, ◌++◌, IfSome, length, map, replicate, Option, Some, None, slice_get, slice_index_or, unwrap_or, if◌then◌else◌, refl}
-use Rattle.std.specs.List.{AllByRecursion, filter, flat_map, list_any, range_with_len}
+use Rattle.std.specs.Prelude.{ℕ, zero, suc, ◌≡◌, ◌≢◌, ◌⊎◌, ◌+◌, ◌<◌, ◌≤◌, ◌==◌, ◌&&◌, ◌||◌, Bool, true, false, List, [], ◌∷◌, ◌++◌, IfSome, length, map, replicate, Option, Some, None, slice_get, slice_index_or, unwrap_or, if◌then◌else◌, refl}
+use Rattle.std.specs.List.{AllByRecursion, filter, flat_map, range_with_len}
 use Rattle.std.specs.Option.{option_and_then, option_map}
 use Rattle.std.proofs.Common.{ap, sym, ◌∙◌, subst, arith, inl, inr}
-use Rattle.std.proofs.lemmas.Bool.{cases_eq, cases_lt, eq-eqb, false≢true, ne_eqb}
+use Rattle.std.proofs.lemmas.Bool.{cases_eq, cases_lt, eq-eqb, ne_eqb}
 use Rattle.std.proofs.lemmas.List.{length-append, length-map, map-append}
 use Rattle.wasm_formats.specs.declared.fault.Space.{Space}
 use Rattle.wasm_formats.specs.declared.fault.Space.TheVariants as spaces
@@ -23,7 +23,7 @@ use Rattle.wasm_name_payloads.specs.Written.{NameMap}
 use Rattle.wasm_normal_form.specs.Bodies.{is_used, local_in, locals_named, used_keys}
 use Rattle.wasm_normal_form.specs.Locals.{Key, in_order, insert_key, is_less, key_cmp, numbered}
 use Rattle.wasm_normal_form.specs.Normal.{normal_ops}
-use Rattle.wasm_normal_form.specs.Roles.{Placed, placed}
+use Rattle.wasm_normal_form.specs.Roles.{Placed}
 use Rattle.wasm_run_names.specs.Picks.{block_pick, form_pick, kind_pick}
 use Rattle.wasm_ruled_modules.specs.Rules.{HasBody, OriginRuled, around_bodies}
 use Rattle.wasm_merged_modules.specs.Merged.{ids_of}
@@ -36,14 +36,13 @@ use Rattle.walrus_items.specs.declared.local.Local.{Local}
 use Rattle.walrus_local_function.specs.declared.local_function.LocalFunction.{LocalFunction}
 use Rattle.walrus_local_numbers.specs.Declared.{has_number}
 use Rattle.walrus_meaning.specs.Bodies.{local_ids, named_locals, own_body, own_operators, used_locals}
-use Rattle.walrus_meaning.specs.Meaning.{means, own_function, own_origin}
+use Rattle.walrus_meaning.specs.Meaning.{own_function, own_origin}
 use Rattle.walrus_module.specs.Parts.{parts}
 use Rattle.walrus_module.specs.declared.module.Module.{Module as Whole}
-use Rattle.walrus_module_items.specs.Functions.{local_of, type_of}
+use Rattle.walrus_module_items.specs.Functions.{local_of}
 use Rattle.walrus_module_items.specs.declared.function.Function.{Function}
 use Rattle.walrus_module_items.specs.declared.function.FunctionKind.{FunctionKind}
-use Rattle.walrus_module_items.specs.declared.function.FunctionKind.TheVariants as kinds
-use Rattle.walrus_item_names.specs.Sent.{given_if, sent, sent_name, sent_names}
+use Rattle.walrus_item_names.specs.Sent.{given_if}
 use Rattle.walrus_payloads_into.specs.Numbered.{locals_in, locals_of}
 use Rattle.walrus_body_trees.specs.Laws.{renamed}
 use Rattle.walrus_named_bodies.specs.Parsed.{read_features}
@@ -51,7 +50,7 @@ use Rattle.walrus_emit_customs.specs.Names.{local_name, text}
 use Rattle.walrus_parse_laws.specs.BodiesTexts.{naming, text_of}
 use Rattle.walrus_parse_laws.specs.Locals.{kept_numbers, typed}
 use Rattle.walrus_parse_laws.specs.Meant.{body_meant, each_from, function_meant, located, origin_meant, picks}
-use Rattle.walrus_parse_laws.specs.Means.{AreLocals, HasLocals, LocalIs, MeansFile, has_local, kind_types, names_in, param_types}
+use Rattle.walrus_parse_laws.specs.Means.{AreLocals, HasLocals, MeansFile, has_local, kind_types, param_types}
 use Rattle.walrus_parse_laws.proofs.ItemsSlotLemmas.{each_at}
 use Rattle.walrus_parse_laws.proofs.ListLemmas.{AllOf, all_join}
 use Rattle.walrus_customs_laws.specs.Locals.{used_name}

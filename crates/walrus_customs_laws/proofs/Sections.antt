@@ -1,12 +1,9 @@
 -- Lemmas: custom sections one by one.
-use Rattle.std.specs.Prelude.{ℕ, zero, suc, ◌≡◌, ◌+◌, ◌==◌, ◌||◌, ◌&&◌, Bool, true, false, not, codes, List, [], ◌∷◌, ◌++◌, length, take, map, filter, Option, Some, None, slice_index_or, string_bytes, unwrap_or, nat_eq, if◌then◌else◌, refl}
-use Rattle.std.specs.BTreeMap.{is_at}
-use Rattle.std.specs.Cmp.Lexicographic.{bytes_decides, nat_list_eq_equiv, slice_cmp}
+use Rattle.std.specs.Prelude.{ℕ, suc, ◌≡◌, ◌+◌, ◌||◌, ◌&&◌, Bool, true, false, not, codes, List, [], ◌∷◌, ◌++◌, length, take, map, filter, Option, Some, None, slice_index_or, string_bytes, unwrap_or, if◌then◌else◌, refl}
+use Rattle.std.specs.Cmp.Lexicographic.{bytes_decides, nat_list_eq_equiv}
 use Rattle.std.specs.List.{flat_map}
 use Rattle.std.specs.Option.{option_map}
-use Rattle.std.specs.Ordering.{nat_cmp}
 use Rattle.std.proofs.Common.{ap, sym, ◌∙◌, subst, arith}
-use Rattle.std.proofs.lemmas.List.{append-nil}
 use Rattle.std.proofs.lemmas.Map.Text.{is_eq-slice_cmp}
 use Rattle.wasm_features.specs.declared.WasmFeatures.{WasmFeatures}
 use Rattle.wasm_formats.specs.declared.fault.Limited.TheVariants.{String}
@@ -19,18 +16,18 @@ use Rattle.wasm_section_bytes.specs.Segments.{sized_bytes}
 use Rattle.wasm_canonical.specs.Canonical.{is_linking}
 use Rattle.wasm_canonical.specs.Due.{custom_due, items_in}
 use Rattle.wasm_rewritten.specs.Customs.{is_debug, stays}
-use Rattle.walrus_arena.specs.Arena.{Arena, entries_from, ids, item_at}
+use Rattle.walrus_arena.specs.Arena.{entries_from}
 use Rattle.walrus_sections.specs.Sections.{name_in}
 use Rattle.walrus_sections.specs.declared.section.Section.{Section}
 use Rattle.walrus_sections.specs.declared.section.Section.TheVariants.{Raw, Boxed}
 use Rattle.walrus_errors.specs.declared.error.ModuleError.TheVariants.{SectionRefused}
 use Rattle.walrus_item_meaning.specs.Meaning.{slots_of}
 use Rattle.walrus_emit_parts.specs.Due.{Due, text, written}
-use Rattle.walrus_emit_customs.specs.Customs.{any_due, custom, customs, is_first, is_skipped, section_due, standing_due, stands, told}
+use Rattle.walrus_emit_customs.specs.Customs.{custom, customs, is_skipped, section_due, standing_due, stands, told}
 use Rattle.walrus_parse_laws.specs.Meaning.{own_custom}
-use Rattle.walrus_parse_laws.specs.Means.{is_payload, section_if, sections_of}
+use Rattle.walrus_parse_laws.specs.Means.{is_payload, section_if}
 use Rattle.walrus_due_laws.specs.Spelled.{SpelledAs, spelled}
-use Rattle.walrus_due_laws.proofs.Parts.{both, lacks, plain, section_as, text_as, turned, within}
+use Rattle.walrus_due_laws.proofs.Parts.{both, lacks, plain, section_as, text_as, within}
 use Rattle.walrus_customs_laws.specs.Sections.{CustomsAreSpelled, ReadCustomsAreSpelled, passes, told_as, written_of}
 
 -- ---- one section

@@ -1,12 +1,12 @@
 -- Lemmas: what keepers of names keep.
-use Rattle.std.specs.Prelude.{ℕ, zero, suc, ◌≡◌, ◌<◌, nat_lt, Bool, true, false, List, [], ◌∷◌, ◌++◌, length, take, drop, Option, Some, None, Ok, Err, if◌then◌else◌, refl}
+use Rattle.std.specs.Prelude.{ℕ, zero, suc, ◌<◌, nat_lt, Bool, true, false, List, [], ◌∷◌, ◌++◌, length, take, drop, Option, Some, None, Ok, Err, if◌then◌else◌}
 use Rattle.std.specs.List.{AllByRecursion, flat_map}
-use Rattle.std.proofs.Common.{ap, sym, ◌∙◌, subst, arith, inl, inr}
+use Rattle.std.proofs.Common.{inl, inr}
 use Rattle.std.proofs.lemmas.Bool.{cases_lt, lt-ltb, le-ltb}
 use Rattle.wasm_formats.specs.Bytes.{byte}
 use Rattle.wasm_formats.specs.Formats.{Format}
 use Rattle.wasm_formats.specs.Joined.{after}
-use Rattle.wasm_formats.specs.Stops.{Parsing, can_end}
+use Rattle.wasm_formats.specs.Stops.{Parsing}
 use Rattle.wasm_formats.specs.Wholes.{u32}
 use Rattle.wasm_grammar.specs.Modules.{Custom, Module}
 use Rattle.wasm_grammar.specs.States.{count_of}
@@ -14,7 +14,7 @@ use Rattle.wasm_grammar.specs.Values.{run}
 use Rattle.wasm_name_payloads.specs.Keepers.{Behind, Ended, Keeper, Kept, Rest, Wrong, kept, one}
 use Rattle.wasm_name_payloads.specs.Joined.{continued, each, led, led_by, times}
 use Rattle.wasm_name_payloads.specs.Windows.{closed, parts_of, total, window}
-use Rattle.wasm_name_payloads.specs.Names.{ALocal, AnItem, Bearer, Given, ItemNames, LocalNames, ModuleName, Part, Skipped, TheModule, association, contents, counted, given, item_in, known_function, local_count, local_names, name_map, named_below, names_if, names_in, names_of, part_of, same_name, section_name, subsection, takes_some, text}
+use Rattle.wasm_name_payloads.specs.Names.{ALocal, Bearer, Given, ItemNames, LocalNames, ModuleName, Part, Skipped, TheModule, association, contents, counted, given, item_in, known_function, local_count, local_names, name_map, named_below, names_if, names_in, part_of, same_name, section_name, subsection, takes_some, text}
 use Rattle.walrus_customs_laws.specs.There.{IsThere, NamesAreThere}
 
 module _ {A : Type 0} (P : A → Type 0) where

@@ -5,7 +5,7 @@ use Rattle.std.specs.Option.{option_and_then}
 use Rattle.wasm_formats.specs.declared.fault.Space.{Space}
 use Rattle.wasm_formats.specs.declared.fault.Space.TheVariants as spaces
 use Rattle.wasm_rewritten.specs.Customs.{names_from}
-use Rattle.walrus_arena.specs.Arena.{Arena, item_at}
+use Rattle.walrus_arena.specs.Arena.{item_at}
 use Rattle.walrus_index_maps.specs.Maps.{Indices}
 use Rattle.walrus_linked.specs.OwnIds.{HaveOwnIds}
 use Rattle.walrus_module.specs.Parts.{Module}

@@ -6,3 +6,6 @@ pub mod Locals
 pub mod Read
 pub mod ReadLocals
 pub mod Kept
+pub mod Known
+pub mod Stays
+pub mod Parted

@@ -2,12 +2,17 @@
 
 ghost use Rattle.walrus_customs_laws.specs.Items.{ItemNamesAreListed};
 ghost use Rattle.walrus_customs_laws.specs.Kept.{NamesAreKept};
+ghost use Rattle.walrus_customs_laws.specs.Known.{BodiesAreKnown};
 ghost use Rattle.walrus_customs_laws.specs.Locals.{LocalNamesAreListed, LocalsAreNumbered, UsedNamesAreListed};
+ghost use Rattle.walrus_customs_laws.specs.Parted.{CustomsAreParted, PayloadsAreSpelled};
 ghost use Rattle.walrus_customs_laws.specs.Payloads.{NamesAreSpelled, ProducersAreSpelled};
 ghost use Rattle.walrus_customs_laws.specs.Read.{ReadNamesAreLast};
 ghost use Rattle.walrus_customs_laws.specs.ReadLocals.{ReadLocalNamesAreLast};
 ghost use Rattle.walrus_customs_laws.specs.Sections.{CustomsAreSpelled, ReadCustomsAreSpelled};
+ghost use Rattle.walrus_customs_laws.specs.Stays.{DeclaringKeepsNames, PartsKeepNames};
 ghost use Rattle.walrus_customs_laws.specs.There.{NamesAreThere};
+
+use walrus_parse_gc_laws::numbers::used_locals_are_meant;
 
 /// Custom sections that can be written are the shortest spelling of the module's (Core Specification, binary format: custom section): those of dynamic linking, or
 /// the others, without those of debuggers.
@@ -83,4 +88,35 @@ pub fn names_are_kept<B>()
     local_names_are_listed();
     read_names_are_last::<B>();
     read_local_names_are_last::<B>();
+}
+
+/// Of bodies that are written with the facts of their functions it is known which locals they name, and that these have their places as their numbers.
+pub fn bodies_are_known()
+    ensures { BodiesAreKnown }
+{
+    used_locals_are_meant();
+    locals_are_numbered();
+}
+
+/// What lives in a part of a module that is kept lived in the module, by its name.
+pub fn parts_keep_names()
+    ensures { PartsKeepNames }
+{}
+
+/// What lives in a module has its name where a segment that declares functions was added.
+pub fn declaring_keeps_names()
+    ensures { DeclaringKeepsNames }
+{}
+
+/// Of the custom sections of a file rewritten those of dynamic linking stand first; behind them names and producers, and then the others of the file.
+pub fn customs_are_parted()
+    ensures { CustomsAreParted }
+{}
+
+/// Sections of names and producers that can be written, as a module's flags ask for them, are the shortest spelling of the custom sections of their payloads.
+pub fn payloads_are_spelled<B>()
+    ensures { PayloadsAreSpelled B }
+{
+    names_are_spelled();
+    producers_are_spelled();
 }
