@@ -65,17 +65,25 @@ module _ (v : Numbered) (keep : Bool) (pushed : List Item) (p : Plan) (kept : Ha
   declared_kept (ns ∷ ms ∷ nss) h = absurd h
 
   all_kept : HasDeclared v.filled p p.declared → HasKept v keep pushed p
-  all_kept h = record { has = kept.has; only = kept.only; imports = kept.imports; import = kept.import; exports = kept.exports; there = record {
-    imports = kept.there.imports;
-    functions = kept.there.functions;
-    tables = kept.there.tables;
-    memories = kept.there.memories;
-    tags = kept.there.tags;
-    globals = kept.there.globals;
-    exports = kept.there.exports;
-    elements = kept.there.elements;
-    segments = kept.there.segments;
-  }; declared = declared_kept p.declared h }
+  all_kept h = record {
+    has = kept.has;
+    only = kept.only;
+    imports = kept.imports;
+    import = kept.import;
+    exports = kept.exports;
+    there = record {
+      imports = kept.there.imports;
+      functions = kept.there.functions;
+      tables = kept.there.tables;
+      memories = kept.there.memories;
+      tags = kept.there.tags;
+      globals = kept.there.globals;
+      exports = kept.there.exports;
+      elements = kept.there.elements;
+      segments = kept.there.segments;
+    };
+    declared = declared_kept p.declared h;
+  }
 
 pub declared_are_kept : DeclaredAreKept
 declared_are_kept v keep pushed p kept h = all_kept v keep pushed p kept h
