@@ -1,6 +1,6 @@
 -- Lemmas: a body's operators are within their ranges in its normal form, and so are the types of its locals.
-use Rattle.std.specs.Prelude.{ℕ, zero, suc, ◌+◌, ◌<◌, ◌≤◌, ◌^◌, ◌≡◌, ◌==◌, nat_lt, ◌&&◌, ◌⊎◌, Bool, true, false, List, [], ◌∷◌, ◌++◌, filter, length, map, Option, Some, None, slice_get, unwrap_or, refl, if◌then◌else◌}
-use Rattle.std.specs.List.{AllByRecursion, flat_map}
+use Rattle.std.specs.Prelude.{ℕ, zero, suc, ◌+◌, ◌<◌, ◌≤◌, ◌^◌, ◌≡◌, ◌==◌, ◌&&◌, ◌⊎◌, Bool, true, false, List, [], ◌∷◌, ◌++◌, filter, length, map, Option, Some, None, slice_get, unwrap_or, refl, if◌then◌else◌}
+use Rattle.std.specs.List.{AllByRecursion}
 use Rattle.std.specs.Option.{option_map}
 use Rattle.std.proofs.Common.{ap, sym, ◌∙◌, subst, arith, inl, inr}
 use Rattle.std.proofs.lemmas.Bool.{cases_lt, lt-ltb, le-ltb}
@@ -13,7 +13,7 @@ use Rattle.wasm_features.specs.declared.WasmFeatures.{WasmFeatures}
 use Rattle.wasm_operators.specs.declared.block_type.BlockType.{BlockType}
 use Rattle.wasm_operators.specs.declared.block_type.BlockType.TheVariants as blocks
 use Rattle.wasm_operators.specs.declared.entry.Kind.TheVariants as immediates
-use Rattle.wasm_operators.specs.Items.{Form as ItemForm, Space, Types, Functions, Tables, Memories, Tags, Globals, ElementSegments, DataSegments, Locals, Labels, Item, Names, Number, S32, S64, Bits, Byte, Bytes, Heap, Block, Access, ManyLabels, ManyValues, ManyClauses, index, number, s32, s64, bits, run, any_byte, below, zero_byte, heap, block, access, labels, values, clauses}
+use Rattle.wasm_operators.specs.Items.{Form as ItemForm, Space, Types, Functions, Tables, Memories, Tags, Globals, ElementSegments, DataSegments, Locals, Labels, Item, index, number, s32, s64, bits, run, any_byte, below, zero_byte, heap, block, access, labels, values, clauses}
 use Rattle.wasm_operators.specs.Kinds.{forms}
 use Rattle.wasm_operators.specs.Names.{Name, Renaming, operator_names, renamed_operator}
 use Rattle.wasm_operators.specs.Operators.{Seen, kind_of}
@@ -22,7 +22,6 @@ use Rattle.wasm_operators.specs.Ranges.{BlockFits, ItemFits, ItemsFit, OperatorF
 use Rattle.wasm_grammar.specs.Modules.{Body, Function, Imported, Origin, Own}
 use Rattle.wasm_grammar.specs.Modules as grammar
 use Rattle.wasm_grammar.specs.States.{types_of}
-use Rattle.wasm_grammar.specs.TypeWords.{value_from}
 use Rattle.wasm_body_grammar.specs.Bodies.{most_locals}
 use Rattle.wasm_body_grammar.specs.Codes.{param_count}
 use Rattle.wasm_body_grammar.specs.Rules.{Around, found_in, latest_from, leads, pick, serves}
@@ -52,6 +51,7 @@ latest_low test bound (kind ∷ kinds) n found le low k e =
   where
     some_is : (x y : ℕ) → (let some : ℕ → Option ℕ = λ x. Some x in some x ≡ some y) → x ≡ y
     some_is x y e = cc
+
     go : (b : Bool) (j : ℕ) → (if b then Some n else found) ≡ Some j → j < bound
     go true j is = let same : n ≡ j = some_is n j is in omega (arith, le, same)
     go false j is = low j is
@@ -103,7 +103,6 @@ module _ (a : Around) (few : length (types_of a.filled) ≤ 1000000) (kinds : Al
 -- ---- operators with the picks of their block types
 
 module _ (features : WasmFeatures) (choose : BlockType → BlockType) (chosen : (ty : BlockType) → BlockFits features ty → BlockFits features (choose ty)) where
-
   abbrev with : Item → Item
   with x = with_pick choose x
 
@@ -320,10 +319,11 @@ module _ (small : FittingNamesAreSmall) (fit : RenamedOperatorsFit) (place : Opt
       let tys = map (renamed_value r) x.locals in
       let many : length tys ≡ length x.locals = length-map x.locals (renamed_value r) in
       let counted = subst (λ (n : ℕ). (n ≡ 0) ⊎ (params + n ≤ most_locals)) (sym many) ruled.counted in
-      let keys = filter_in a.features (λ (k : Key). is_used ops k.1) (numbered params tys) (numbered_in a.features params tys (values_retyped a.features r low x.locals h.0)) in
-      (keys_in a.features (used_keys params tys ops) (order_in a.features (filter (λ (k : Key). is_used ops k.1) (numbered params tys)) keys),
-      ops_renamed (with_numbers (new_number params (used_keys params tys ops)) (by_types r)) (numbers_low (new_number params (used_keys params tys ops)) (λ n lt. number_low params n tys ops counted lt)) ops
-      (ops_normal a.features (block_pick a) (block_fits a few kinds) x.operators h.1))
+      let keys = filter_in a.features (λ (k : Key). is_used ops k.1) (numbered params tys) (numbered_in a.features params tys (values_retyped a.features r low x.locals h.0)) in (
+        keys_in a.features (used_keys params tys ops) (order_in a.features (filter (λ (k : Key). is_used ops k.1) (numbered params tys)) keys),
+        ops_renamed (with_numbers (new_number params (used_keys params tys ops)) (by_types r)) (numbers_low (new_number params (used_keys params tys ops)) (λ n lt. number_low params n tys ops counted lt)) ops
+            (ops_normal a.features (block_pick a) (block_fits a few kinds) x.operators h.1),
+      )
 
   origin_normal : (params : ℕ) (o : Origin Body) → OriginRuled a params o → OriginIn a.features o → OriginIn a.features (normal_origin place a (by_types r Types) params o)
   origin_normal params (Imported n) ruled h = tt

@@ -1,15 +1,14 @@
 -- Lemmas: the part that is written of a file meets the rules.
-use Rattle.std.specs.Prelude.{ℕ, zero, suc, ◌≡◌, ◌||◌, Bool, true, false, List, [], ◌∷◌, ◌++◌, map, Option, Some, None, slice_get, slice_index_or, refl}
-use Rattle.std.specs.List.{AllByRecursion, cons_option, filter_map, flat_map, list_any}
+use Rattle.std.specs.Prelude.{ℕ, zero, suc, ◌≡◌, ◌||◌, Bool, true, false, List, [], ◌∷◌, map, Option, Some, None, slice_get, slice_index_or, refl}
+use Rattle.std.specs.List.{AllByRecursion, list_any}
 use Rattle.std.specs.Option.{option_map}
-use Rattle.std.proofs.Common.{ap, sym, ◌∙◌, subst}
+use Rattle.std.proofs.Common.{ap, ◌∙◌}
 use Rattle.wasm_operators.specs.Items.{Functions}
 use Rattle.wasm_operators.specs.NameLaws.{NamesAreRenamed, renamed_name}
 use Rattle.wasm_operators.specs.Names.{Name, Renaming, operator_names, renamed_operator}
 use Rattle.wasm_operators.specs.Operators.{Seen}
 use Rattle.wasm_grammar.specs.Modules.{Body, Function, Imported, Module, Origin, Own, Placed, Segment}
 use Rattle.wasm_body_grammar.specs.Rules.{is_segment}
-use Rattle.wasm_ruled_modules.specs.Rules.{IsCounted}
 use Rattle.wasm_canonical.specs.Due.{body_names_segment, counts_data, is_passive, items_in, names_segment}
 use Rattle.wasm_part.specs.Closed.{SegmentCounts}
 use Rattle.wasm_part.specs.Kept.{BodyCounts}
@@ -38,9 +37,10 @@ module _ (renamed : NamesAreRenamed) (r : Renaming) where
 
   ops_count : (counted : Bool) (ops : List Placed) → (list_any names_segment (map (renumbered_placed r) ops) ≡ true → counted ≡ true) → AllByRecursion (λ (o : Placed). SegmentCounts counted o.op) ops
   ops_count counted [] h = tt
-  ops_count counted (o ∷ ops) h =
-      (λ e. h (or_left (names_segment (renumbered_placed r o)) (list_any names_segment (map (renumbered_placed r) ops)) (names_stay o.op ∙ e)),
-      ops_count counted ops (λ e. h (or_right (names_segment (renumbered_placed r o)) (list_any names_segment (map (renumbered_placed r) ops)) e)))
+  ops_count counted (o ∷ ops) h = (
+    λ e. h (or_left (names_segment (renumbered_placed r o)) (list_any names_segment (map (renumbered_placed r) ops)) (names_stay o.op ∙ e)),
+    ops_count counted ops (λ e. h (or_right (names_segment (renumbered_placed r o)) (list_any names_segment (map (renumbered_placed r) ops)) e)),
+  )
 
   origin_counts : (brings : ℕ → ℕ) (counted : Bool) (o : Origin Body) → (body_names_segment (renumbered_own r brings (renumbered_body r) o) ≡ true → counted ≡ true) → BodyCounts counted o
   origin_counts brings counted (Imported n) h = tt
@@ -53,6 +53,7 @@ any_picked Q f xs (k ∷ ns) zero n g at is e = here (slice_index_or xs k None) 
   where
     some_same : (x y : ℕ) → (let some : ℕ → Option ℕ = λ x. Some x in some x ≡ some y) → x ≡ y
     some_same x y e = cc
+
     here : (o : Option Function) → o ≡ Some g → list_any Q (items_in (option_map f o ∷ picked f ns xs)) ≡ true
     here None e = absurd cc
     here (Some y) same = or_left (Q (f y)) (list_any Q (items_in (picked f ns xs))) (ap (λ (y : Function). Q (f y)) (fun_same y g same) ∙ e)
