@@ -2,7 +2,7 @@
 use Rattle.std.specs.Prelude.{◌≡◌, Bool, true, List, [], ◌∷◌}
 use Rattle.std.specs.List.{AllByRecursion}
 use Rattle.walrus_forms.specs.Records.{TypeGroup}
-use Rattle.wasm_merged_modules.specs.Merged.{ids_of, is_filled, kept_of, once, single}
+use Rattle.wasm_merged_modules.specs.Merged.{ids_of, is_filled, kept_of, once}
 use Rattle.wasm_module_bytes.specs.Due.{IsWritten}
 use Rattle.wasm_part.specs.Handlers.{handler_groups, lacking}
 use Rattle.wasm_part.specs.Seen.{file_seen}

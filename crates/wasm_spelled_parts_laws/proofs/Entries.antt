@@ -1,67 +1,41 @@
 -- Lemmas: items within their limits have spellings.
-use Rattle.std.specs.Prelude.{ℕ, zero, suc, ◌+◌, ◌<◌, ◌≤◌, ◌^◌, ◌≡◌, ◌==◌, ◌&&◌, ◌⊎◌, Bool, true, false, not, List, [], ◌∷◌, ◌++◌, length, map, filter, Option, Some, None, slice_index_or, refl, if◌then◌else◌}
-use Rattle.std.specs.List.{AllByRecursion, cons_option, filter_map, flat_map}
-use Rattle.std.specs.Option.{is_some, option_map}
-use Rattle.std.proofs.Common.{ap, sym, ◌∙◌, subst, arith, inl, inr}
-use Rattle.std.proofs.lemmas.List.{length-append, length-map}
-use Rattle.walrus_forms.specs.Kinds.{Kind}
-use Rattle.walrus_forms.specs.Records.{TypeGroup}
+use Rattle.std.specs.Prelude.{ℕ, ◌+◌, ◌<◌, ◌^◌, ◌≡◌, ◌==◌, ◌&&◌, Bool, true, false, not, List, [], ◌∷◌, ◌++◌, length, map, filter, Option, Some, None, refl, if◌then◌else◌}
+use Rattle.std.specs.List.{AllByRecursion, cons_option, filter_map}
+use Rattle.std.specs.Option.{is_some}
+use Rattle.std.proofs.Common.{ap, sym, subst, arith}
 use Rattle.walrus_forms.specs.declared.value.RefType.{RefType}
-use Rattle.walrus_forms.specs.declared.value.ValType.{ValType}
 use Rattle.wasm_features.specs.declared.WasmFeatures.{WasmFeatures}
-use Rattle.wasm_features.specs.Features.{GcTypes, enables}
 use Rattle.wasm_formats.specs.Bytes.{either_type}
 use Rattle.wasm_formats.specs.Stops.{ConstExpr}
 use Rattle.wasm_formats.specs.declared.fault.Space.{Space}
 use Rattle.wasm_formats.specs.declared.fault.Space.TheVariants as spaces
 use Rattle.wasm_format_bytes.specs.Lists.{EntriesFit}
-use Rattle.wasm_ref_types.specs.TypeSpellings.{HasGcTypes}
 use Rattle.wasm_operators.specs.declared.entry.Kind.{Kind as ItemKind}
-use Rattle.wasm_operators.specs.Bytes.{code_bytes, item_bytes, operator_bytes, unsigned_bytes}
+use Rattle.wasm_operators.specs.Bytes.{operator_bytes, unsigned_bytes}
 use Rattle.wasm_operators.specs.ItemSpellings.{SpellsForms}
-use Rattle.wasm_operators.specs.Kinds.{forms}
-use Rattle.wasm_operators.specs.Operators.{Seen, kind_of}
+use Rattle.wasm_operators.specs.Operators.{Seen}
 use Rattle.wasm_operators.specs.Ranges.{OperatorFits}
-use Rattle.wasm_operators.proofs.Codes.{code_has}
 use Rattle.wasm_operators.proofs.Operators.{operator_fits}
-use Rattle.wasm_operators.specs.Vecs.{Small, parts_small}
+use Rattle.wasm_operators.specs.Vecs.{parts_small}
 use Rattle.wasm_format_bytes.specs.Writers.{after_writer, u32_writer}
 use Rattle.wasm_grammar.specs.Exprs.{Known, expr, forms_of, is_constant}
-use Rattle.wasm_grammar.specs.Modules.{Active, Body, Custom, Declared, Element, Elements, Export, Expr, Expressions, Function, Functions, Global, Import, Imported, Memory, Mode, Module, Origin, Own, Passive, Placed, Segment, Table, Tag}
-use Rattle.wasm_grammar.specs.States.{has_room, known, nothing_yet, types_of}
+use Rattle.wasm_grammar.specs.Modules.{Active, Declared, Element, Elements, Expr, Expressions, Functions, Global, Imported, Memory, Mode, Origin, Own, Passive, Segment, Table, Tag}
+use Rattle.wasm_grammar.specs.States.{has_room, known, nothing_yet}
 use Rattle.wasm_grammar.specs.Values.{has_maximum, has_page_size, index, is_wide, must}
-use Rattle.wasm_grammar_bytes.specs.Values.{limits_writer, optional_size_writer}
-use Rattle.wasm_body_grammar.specs.Codes.{own_type}
-use Rattle.wasm_body_grammar.specs.Rules.{Around}
-use Rattle.wasm_sections.specs.Entities.{Entity, FunctionOf, TableOf, MemoryOf, GlobalOf, TagOf}
-use Rattle.wasm_sections.specs.Segments.{ActiveData, ActiveExpressions, ActiveFunctions, DataEntry, DataInto, DeclaredExpressions, DeclaredFunctions, ElementEntry, ExpressionsInto, FunctionsInto, PassiveData, PassiveExpressions, PassiveFunctions, pass}
-use Rattle.wasm_sections.specs.TypeSection.{Measured, behind, measured}
-use Rattle.wasm_section_bytes.specs.Entries.{entity_writer, export_writer, function_writer, global_type_writer, global_writer, import_writer, index_writer, initialised_writer, memory_writer, page_size_writer, table_type_writer, table_writer, tag_type_writer, tag_writer}
+use Rattle.wasm_grammar_bytes.specs.Values.{optional_size_writer}
+use Rattle.wasm_sections.specs.Segments.{ActiveData, ActiveExpressions, ActiveFunctions, DataEntry, DataInto, ElementEntry, ExpressionsInto, FunctionsInto, pass}
+use Rattle.wasm_section_bytes.specs.Entries.{global_type_writer, global_writer, index_writer, initialised_writer, memory_writer, page_size_writer, table_type_writer, table_writer, tag_type_writer, tag_writer}
 use Rattle.wasm_section_bytes.specs.Exprs.{constant_writer, expr_writer}
-use Rattle.wasm_section_bytes.specs.Flags.{IsNotDeclared, bytes_entry, entry_of_element, entry_of_segment, expressions_entry, functions_entry, is_funcref, items_entry}
-use Rattle.wasm_section_bytes.specs.Placed.{AllFit, EitherFits, SingleFits, group_placed, member_placed}
-use Rattle.wasm_section_bytes.specs.Segments.{contents_writer, data_flags_writer, data_form_writer, data_writer, element_flags_writer, element_form_writer, element_writer, expressions_writer, functions_writer, sized_bytes}
-use Rattle.wasm_section_bytes.specs.TypeBytes.{sub_writer}
-use Rattle.wasm_module_bytes.specs.Bytes.{origin_unplaced, slot_unplaced, unplaced, without_places}
-use Rattle.wasm_module_bytes.specs.Due.{IsWritten, bit, export_from, global_from, group_from, memory_from, shaped, space_kind, sub_from, table_from}
+use Rattle.wasm_section_bytes.specs.Flags.{bytes_entry, entry_of_element, entry_of_segment, expressions_entry, functions_entry, is_funcref, items_entry}
+use Rattle.wasm_section_bytes.specs.Segments.{contents_writer, data_flags_writer, data_form_writer, data_writer, element_flags_writer, element_form_writer, element_writer, sized_bytes}
+use Rattle.wasm_module_bytes.specs.Due.{bit, global_from, memory_from, space_kind, table_from}
 use Rattle.wasm_module_rules.specs.Linked.{Each}
-use Rattle.wasm_ruled_modules.specs.Rules.{AreExprs, AreKnown, GlobalsSee, IsExpr, IsInit, IsPlaced, IsRuled, ItemsKnown, Sees, own_init, table_wide}
+use Rattle.wasm_ruled_modules.specs.Rules.{AreExprs, AreKnown, GlobalsSee, IsInit, IsPlaced, ItemsKnown, own_init}
 use Rattle.wasm_spelled_modules.specs.Spelled.{InitIsSpelled, IsSpelled, ModeIsSpelled, OriginIsSpelled}
-use Rattle.wasm_canonical.specs.Bodies.{OperatorsFit}
-use Rattle.wasm_canonical.specs.Canonical.{first_customs, is_linking, last_customs}
-use Rattle.wasm_canonical.specs.CanonicalReads.{ItemsAreSpelled}
-use Rattle.wasm_canonical.specs.Dense.{BringAll, Brings, Counts, IsDense, none_brought, one_more}
-use Rattle.wasm_canonical.specs.Due.{entity_due, function_due, global_entry, if_own, import_due, items_in, memory_due, global_due, of_init, own_global, own_memory, own_table, own_tag, table_due, tag_due}
-use Rattle.wasm_canonical.specs.Entries.{DueEntriesFit, StartFits}
-use Rattle.wasm_canonical.specs.Fits.{OriginSpelled, TypeFits}
-use Rattle.wasm_part.proofs.Picked.{each_at}
-use Rattle.wasm_places_laws.specs.Places.{around_written}
-use Rattle.wasm_spelled_parts_laws.specs.Due.{ItemsInAreSpelled}
-use Rattle.wasm_spelled_parts_laws.specs.Items.{AreIn, BodyIn, ElementIn, GlobalIn, GroupIn, ImportIn, ItemsIn, KindIn, MaximumIn, MemoryIn, NameIn, NumberIn, OriginIn, RefIn, SegmentIn, SizeIn, TableIn, ValueIn}
-use Rattle.wasm_spelled_parts_laws.specs.Operators.{FittingOperatorsAreSpelled}
-use Rattle.wasm_spelled_parts_laws.specs.Parts.{AreNumbered, ItemsNumbered, ModeNumbered}
-use Rattle.wasm_spelled_parts_laws.proofs.Small.{AreBytes, bytes_joined, code_small, items_small, kind_bytes, operator_small, small_bytes, u32_bytes}
-use Rattle.wasm_spelled_parts_laws.proofs.TypeKinds.{kind_spelled}
+use Rattle.wasm_canonical.specs.Due.{global_entry, if_own, items_in, of_init, own_global, own_memory, own_table, own_tag}
+use Rattle.wasm_spelled_parts_laws.specs.Items.{ElementIn, GlobalIn, ItemsIn, MaximumIn, MemoryIn, NumberIn, RefIn, SegmentIn, SizeIn, TableIn, ValueIn}
+use Rattle.wasm_spelled_parts_laws.specs.Parts.{ItemsNumbered, ModeNumbered}
+use Rattle.wasm_spelled_parts_laws.proofs.Small.{AreBytes, bytes_joined, operator_small, small_bytes, u32_bytes}
 use Rattle.wasm_spelled_parts_laws.proofs.Values.{ref_spelled, value_spelled}
 
 -- the same, whether there is room or not

@@ -1,10 +1,9 @@
 -- Lemmas: the items of what is read are within their limits.
-use Rattle.std.specs.Prelude.{ℕ, zero, suc, ◌<◌, ◌≤◌, ◌^◌, ◌≡◌, ◌==◌, ◌⊎◌, drop, Bool, true, false, List, [], ◌∷◌, ◌++◌, All, fold, length, Option, Some, None, refl, if◌then◌else◌}
+use Rattle.std.specs.Prelude.{ℕ, zero, suc, ◌<◌, ◌^◌, ◌≡◌, ◌==◌, ◌⊎◌, drop, Bool, true, false, List, [], ◌∷◌, ◌++◌, fold, length, Option, Some, None, refl}
 use Rattle.std.specs.List.{AllByRecursion, filter_map, repeat}
 use Rattle.walrus_forms.specs.Values.{nullable}
-use Rattle.std.proofs.Common.{ap, sym, ◌∙◌, subst, arith, inl, inr}
+use Rattle.std.proofs.Common.{sym, subst, arith, inl, inr}
 use Rattle.walrus_forms.specs.Records.{TypeGroup}
-use Rattle.walrus_forms.specs.declared.value.RefType.{RefType}
 use Rattle.wasm_features.specs.declared.WasmFeatures.{WasmFeatures}
 use Rattle.wasm_formats.specs.Bytes.{either_type}
 use Rattle.wasm_formats.specs.Formats.{Format}
@@ -33,14 +32,13 @@ use Rattle.wasm_operators.specs.Vecs.{Small, parts_small}
 use Rattle.wasm_grammar.specs.Modules.{Body, Custom, Element, Elements, Export, Expressions, Function, Functions, Global, Import, Imported, Memory, Module, Origin, Own, Placed, Segment, Table, empty}
 use Rattle.wasm_grammar.specs.States.{Chunk, State, known, nothing_yet, type_count, types_of}
 use Rattle.wasm_grammar.specs.Values.{has_maximum, has_page_size, is_wide}
-use Rattle.wasm_grammar_bytes.specs.Values.{limits_writer, size_writer}
 use Rattle.wasm_sections.specs.TypeSection.{GroupEntry, add_group, group, type_group}
 use Rattle.wasm_sections.specs.Entities.{Entity, FunctionOf, GlobalEntry, GlobalOf, ImportEntry, MemoryOf, MemoryType, TableEntry, TableOf, TableType, TagOf, add_entity, add_function, add_global, add_import, add_memory, add_table, add_tag, global_entry, global_of, import_entry, import_of, memory_entry, memory_of, table_entry, table_of, with_import}
 use Rattle.wasm_sections.specs.Exports.{ExportEntry, add_export, export_entry, kind_space}
 use Rattle.wasm_sections.specs.Ids.{either_case}
 use Rattle.wasm_sections.specs.Segments.{DataEntry, DataForm, ElementEntry, ElementForm, add_data, add_element, data_entry, element_entry, element_of, segment_of}
 use Rattle.wasm_sections.specs.Sections.{Section, CustomSection, TypeSection, ImportSection, FunctionSection, TableSection, MemorySection, TagSection, GlobalSection, ExportSection, StartSection, ElementSection, DataCountSection, CodeSection, DataSection, SectionEntry, next, put}
-use Rattle.wasm_section_bytes.specs.Entries.{entity_writer, export_writer, global_type_writer, global_writer, import_writer, initialised_writer, memory_writer, page_size_writer, table_type_writer, table_writer}
+use Rattle.wasm_section_bytes.specs.Entries.{entity_writer, export_writer, global_type_writer, global_writer, import_writer, initialised_writer, memory_writer, table_type_writer, table_writer}
 use Rattle.wasm_section_bytes.specs.Files.{SectionFits, SectionsFit, sections_short}
 use Rattle.wasm_section_bytes.specs.Placed.{AllFit, group_placed}
 use Rattle.wasm_section_bytes.specs.Segments.{data_flags_writer, data_form_writer, data_writer, element_flags_writer, element_form_writer, element_writer}
@@ -56,9 +54,6 @@ use Rattle.wasm_spelled_parts_laws.proofs.Values.{ref_read, value_read}
 in_room : {P : Type 0} (room : Bool) → either_type room P P → P
 in_room true p = p
 in_room false p = p
-
-none_is : {P : Type 0} (n : ℕ) → (let none : Option ℕ = None in none ≡ Some n) → P
-none_is n e = absurd cc
 
 -- ---- limits
 

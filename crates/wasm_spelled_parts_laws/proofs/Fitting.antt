@@ -1,7 +1,7 @@
 -- Lemmas: operators within their ranges stay there where what they name is renamed within its range.
-use Rattle.std.specs.Prelude.{ℕ, ◌<◌, ◌≤◌, ◌^◌, ◌≡◌, ◌⊎◌, Bool, true, List, [], ◌∷◌, ◌++◌, All, length, map, Some, refl}
+use Rattle.std.specs.Prelude.{ℕ, ◌<◌, ◌^◌, ◌≡◌, ◌⊎◌, Bool, true, List, [], ◌∷◌, ◌++◌, map}
 use Rattle.std.specs.List.{AllByRecursion, flat_map}
-use Rattle.std.proofs.Common.{ap, sym, ◌∙◌, subst, arith, inl, inr}
+use Rattle.std.proofs.Common.{ap, sym, subst, arith, inl, inr}
 use Rattle.std.proofs.lemmas.List.{length-map}
 use Rattle.std.proofs.lemmas.List.Elements.{All-from_recursion, recursion_from_All}
 use Rattle.wasm_features.specs.declared.WasmFeatures.{WasmFeatures}
@@ -10,7 +10,7 @@ use Rattle.wasm_ref_types.specs.declared.heap.HeapType.TheVariants.{Abstract, Co
 use Rattle.wasm_ref_types.specs.declared.index.UnpackedIndex.TheVariants.{Module, RecGroup, Id}
 use Rattle.wasm_ref_types.specs.declared.value.ValType.{ValType}
 use Rattle.wasm_ref_types.specs.declared.value.ValType.TheVariants.{I32, I64, F32, F64, V128, Ref}
-use Rattle.wasm_ref_types.specs.Reference.{Reference, reference}
+use Rattle.wasm_ref_types.specs.Reference.{reference}
 use Rattle.wasm_ref_types.specs.TypeSpellings.{HasGcTypes, IsAbstract}
 use Rattle.wasm_operators.specs.declared.block_type.BlockType.{BlockType}
 use Rattle.wasm_operators.specs.declared.block_type.BlockType.TheVariants as blocks
@@ -19,10 +19,8 @@ use Rattle.wasm_operators.specs.declared.clause.Clause.TheVariants as handlers
 use Rattle.wasm_operators.specs.declared.memory_access.MemoryAccess.{MemoryAccess}
 use Rattle.wasm_operators.specs.Items.{Form, Space, Types, Functions, Tables, Memories, Tags, Globals, ElementSegments, DataSegments, Locals, Labels, Item, Names, Number, S32, S64, Bits, Byte, Bytes, Heap, Block, Access, ManyLabels, ManyValues, ManyClauses, index, number, s32, s64, bits, run, any_byte, below, zero_byte, heap, block, access, labels, values, clauses}
 use Rattle.wasm_operators.specs.Kinds.{forms}
-use Rattle.wasm_operators.specs.Names.{Name, Renaming, block_names, clause_names, heap_names, item_names, label_name, operator_names, renamed_block, renamed_clause, renamed_heap, renamed_item, renamed_operator, renamed_value, value_names}
-use Rattle.wasm_operators.specs.Operators.{Seen}
-use Rattle.wasm_operators.specs.Ranges.{AccessFits, BlockFits, ClauseFits, HeapFits, IsU32, ItemFits, ItemsFit, ListFits, OperatorFits, ReferenceFits, ValueFits}
-use Rattle.wasm_operators.specs.Readings.{most}
+use Rattle.wasm_operators.specs.Names.{Name, Renaming, block_names, clause_names, heap_names, item_names, label_name, renamed_block, renamed_clause, renamed_heap, renamed_item, renamed_value, value_names}
+use Rattle.wasm_operators.specs.Ranges.{BlockFits, ClauseFits, HeapFits, IsU32, ItemFits, ItemsFit, ListFits, ReferenceFits, ValueFits}
 use Rattle.wasm_spelled_parts_laws.specs.Operators.{FittingNamesAreSmall, NamesFit, RenamedOperatorsFit, most_of}
 
 pub left_all : {A : Type 0} (P : A → Type 0) (xs ys : List A) → AllByRecursion P (xs ++ ys) → AllByRecursion P xs

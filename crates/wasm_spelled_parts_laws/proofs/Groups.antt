@@ -1,5 +1,5 @@
 -- Lemmas: the groups of types that are written are those of the module, of what is written.
-use Rattle.std.specs.Prelude.{ℕ, zero, suc, ◌+◌, ◌<◌, ◌≤◌, ◌≡◌, ◌==◌, ◌&&◌, ◌⊎◌, Bool, true, false, not, List, [], ◌∷◌, ◌++◌, All, length, map, filter, take, drop, Option, Some, None, slice_index_or, refl, if◌then◌else◌}
+use Rattle.std.specs.Prelude.{ℕ, zero, suc, ◌+◌, ◌<◌, ◌≤◌, ◌≡◌, ◌==◌, ◌&&◌, ◌⊎◌, Bool, true, false, not, List, [], ◌∷◌, ◌++◌, length, map, filter, take, drop, Option, Some, None, slice_index_or, refl, if◌then◌else◌}
 use Rattle.std.specs.List.{AllByRecursion, filter_map, cons_option, range_with_len}
 use Rattle.std.specs.Option.{is_some, option_and_then}
 use Rattle.std.proofs.Common.{ap, sym, ◌∙◌, subst, arith, inl, inr}
@@ -15,7 +15,7 @@ use Rattle.walrus_types.specs.Items.{Group}
 use Rattle.walrus_types.specs.Mergers.{is_single}
 use Rattle.walrus_types.specs.Table.{Table, type_at}
 use Rattle.walrus_types.specs.walrus_items.Items.{Item}
-use Rattle.wasm_merged_modules.specs.Merged.{is_filled, is_new, kept, kept_of, renamed_group, single}
+use Rattle.wasm_merged_modules.specs.Merged.{is_filled, is_new, kept, renamed_group, single}
 use Rattle.wasm_module_bytes.specs.Due.{AreWritten, IsWritten}
 use Rattle.wasm_references.specs.References.{Numbered, numbered}
 use Rattle.wasm_part.specs.Written.{GroupsStand, has_types, with_types}

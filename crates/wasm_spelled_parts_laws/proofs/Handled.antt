@@ -1,8 +1,8 @@
 -- Lemmas: what handlers of legacy `try`s take and give is within its limits.
-use Rattle.std.specs.Prelude.{ℕ, zero, suc, ◌+◌, ◌<◌, ◌≤◌, ◌^◌, ◌≡◌, Bool, true, false, List, [], ◌∷◌, ◌++◌, length, map, filter, Option, Some, None, slice_get, slice_index_or, refl, if◌then◌else◌}
+use Rattle.std.specs.Prelude.{ℕ, zero, suc, ◌<◌, ◌≤◌, ◌^◌, ◌≡◌, Bool, true, false, List, [], ◌∷◌, length, map, filter, Option, Some, None, slice_get, slice_index_or, refl, if◌then◌else◌}
 use Rattle.std.specs.List.{AllByRecursion, flat_map}
 use Rattle.std.specs.Option.{option_and_then, option_map}
-use Rattle.std.proofs.Common.{ap, sym, ◌∙◌, subst, arith, inl, inr}
+use Rattle.std.proofs.Common.{sym, subst, arith, inr}
 use Rattle.std.proofs.lemmas.List.{length-map}
 use Rattle.walrus_forms.specs.declared.value.ValType.{ValType}
 use Rattle.walrus_forms.specs.Forms.{ArrayForm, Form, FunctionForm, StructForm}
@@ -16,8 +16,8 @@ use Rattle.wasm_operators.specs.declared.entry.Flow.{Flow}
 use Rattle.wasm_operators.specs.declared.entry.Flow.TheVariants as flows
 use Rattle.wasm_operators.specs.Items.{Form as ItemForm, Types, Functions, Tables, Memories, Tags, Globals, ElementSegments, DataSegments, Locals, Labels, Item, Names, Number, S32, S64, Bits, Byte, Bytes, Heap, Block, Access, ManyLabels, ManyValues, ManyClauses, index, number, s32, s64, bits, run, any_byte, below, zero_byte, heap, block, access, labels, values, clauses}
 use Rattle.wasm_operators.specs.Kinds.{forms}
-use Rattle.wasm_operators.specs.Operators.{Seen, flow_of}
-use Rattle.wasm_operators.specs.Ranges.{BlockFits, ItemFits, ItemsFit, OperatorFits, ValueFits}
+use Rattle.wasm_operators.specs.Operators.{flow_of}
+use Rattle.wasm_operators.specs.Ranges.{BlockFits, ItemFits, ItemsFit, ValueFits}
 use Rattle.wasm_grammar.specs.Modules.{Body, Function, Imported, Module, Origin, Own}
 use Rattle.wasm_grammar.specs.Modules as grammar
 use Rattle.wasm_grammar.specs.States.{types_of}
@@ -184,9 +184,6 @@ module _ (features : WasmFeatures) where
     opened_in fs (ManyLabels ns ∷ xs) h = tt
     opened_in fs (ManyValues tys ∷ xs) h = tt
     opened_in fs (ManyClauses cs ∷ xs) h = tt
-
-    same_block : BlockType → BlockType
-    same_block ty = ty
 
     text_in : (results : Option (List ValType)) (t : Tree) → ResultsIn results → TreeGood features (λ ty. ty) (λ ty h. h) t → AllByRecursion SignatureIn (text_handles types tags results t)
     text_in results (Close o p) h k = tt

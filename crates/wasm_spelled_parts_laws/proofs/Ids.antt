@@ -1,8 +1,7 @@
 -- Lemmas: the ids of a file's types are below 2^20.
-use Rattle.std.specs.Prelude.{ℕ, zero, suc, ◌+◌, ◌<◌, ◌≤◌, ◌^◌, ◌≡◌, ◌⊎◌, ◌&&◌, Bool, true, false, List, [], ◌∷◌, ◌++◌, length, map, Option, Some, None, slice_get, slice_index, refl, if◌then◌else◌}
-use Rattle.std.specs.List.{range_with_len}
+use Rattle.std.specs.Prelude.{ℕ, zero, suc, ◌+◌, ◌<◌, ◌≤◌, ◌^◌, ◌≡◌, ◌&&◌, Bool, true, false, List, [], ◌∷◌, ◌++◌, length, map, Option, Some, None, slice_get, refl, if◌then◌else◌}
 use Rattle.std.specs.Option.{option_map}
-use Rattle.std.proofs.Common.{ap, sym, ◌∙◌, subst, arith, inl, inr}
+use Rattle.std.proofs.Common.{ap, ◌∙◌, arith, inl, inr}
 use Rattle.std.proofs.lemmas.Bool.{cases_lt}
 use Rattle.std.proofs.lemmas.List.{length-append, length-map, append-nil}
 use Rattle.std.proofs.lemmas.List.FromFn.{length-range_with_len}
@@ -15,7 +14,7 @@ use Rattle.walrus_types.specs.Table.{equal_type}
 use Rattle.wasm_features.specs.declared.WasmFeatures.{WasmFeatures}
 use Rattle.wasm_grammar.specs.Modules.{Module}
 use Rattle.wasm_grammar.specs.States.{types_of}
-use Rattle.wasm_ruled_modules.specs.Rules.{GroupsBelow, around_bodies}
+use Rattle.wasm_ruled_modules.specs.Rules.{GroupsBelow}
 use Rattle.wasm_merged_modules.specs.Merged.{NoneStandBehind, TypesAreMerged, ids_of, is_filled, is_new, kept, kept_of, kinds_of, merged_module, new_table, renamed_group}
 
 -- ---- as many ids as types

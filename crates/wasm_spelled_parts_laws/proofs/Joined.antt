@@ -1,8 +1,8 @@
 -- Lemmas: the part that is written of a file, with its custom sections, is read again.
-use Rattle.std.specs.Prelude.{ℕ, ◌+◌, ◌<◌, ◌≤◌, ◌^◌, ◌≡◌, Bool, true, false, not, List, [], ◌∷◌, ◌++◌, filter, map, Option, Some, None, refl, if◌then◌else◌}
+use Rattle.std.specs.Prelude.{ℕ, ◌≡◌, Bool, true, false, not, List, [], ◌∷◌, ◌++◌, filter, map, Option, Some, None, refl}
 use Rattle.std.specs.List.{AllByRecursion, filter_map}
 use Rattle.std.specs.Str.{is_utf8}
-use Rattle.std.proofs.Common.{ap, sym, ◌∙◌, subst, arith}
+use Rattle.std.proofs.Common.{ap, sym, ◌∙◌, arith}
 use Rattle.wasm_features.specs.declared.WasmFeatures.{WasmFeatures}
 use Rattle.wasm_grammar.specs.Modules.{Body, Custom, Function, Imported, Module, Origin, Own, Placed}
 use Rattle.wasm_operators.specs.Items.{Functions}
@@ -13,7 +13,7 @@ use Rattle.wasm_body_grammar.specs.Frames.{Frame, turned}
 use Rattle.wasm_body_grammar.specs.Rules.{Around}
 use Rattle.wasm_module_bytes.specs.Bytes.{without_places}
 use Rattle.wasm_module_rules.specs.Linked.{Each}
-use Rattle.wasm_ruled_modules.specs.Rules.{AreOperators, HasBody, IsBody, IsCounted, IsRuled, OriginRuled, around_bodies}
+use Rattle.wasm_ruled_modules.specs.Rules.{AreOperators, HasBody, IsRuled, OriginRuled, around_bodies}
 use Rattle.wasm_name_payloads.specs.Names.{section_name}
 use Rattle.wasm_name_payloads.specs.Producers.{processed, producers_of, section_name as producers_name}
 use Rattle.wasm_name_payloads.specs.Written.{payload_bytes, producers_bytes}
@@ -23,10 +23,8 @@ use Rattle.wasm_canonical.specs.Dense.{IsDense}
 use Rattle.wasm_canonical.specs.Due.{counts_data, items_in}
 use Rattle.wasm_part.specs.Part.{Plan, part}
 use Rattle.wasm_part.specs.Stands.{Stands}
-use Rattle.wasm_places_laws.specs.Pairs.{module_pairs}
-use Rattle.wasm_places_laws.specs.Places.{FunctionsAtPlaces, IsWrittenPart, WrittenPairsArePlaces, around_written}
+use Rattle.wasm_places_laws.specs.Places.{FunctionsAtPlaces, WrittenPairsArePlaces}
 use Rattle.wasm_rewritten.specs.Customs.{customs_written, names_kept, section_if, section_of, stays}
-use Rattle.wasm_rewritten.specs.Rewritten.{Rewritten}
 use Rattle.wasm_spelled_parts_laws.specs.Customs.{WrittenCustomsAreInOrder}
 use Rattle.wasm_spelled_parts_laws.specs.Dense.{WrittenPartsAreDense}
 use Rattle.wasm_spelled_parts_laws.specs.Due.{ItemsInAreSpelled}
@@ -34,7 +32,7 @@ use Rattle.wasm_spelled_parts_laws.specs.Items.{AreIn, NameIn, ReadItemsAreIn}
 use Rattle.wasm_spelled_parts_laws.specs.Parts.{AreNumbered, WrittenItemsAreIn}
 use Rattle.wasm_spelled_parts_laws.specs.Ruled.{CountedPartsAreRuled}
 use Rattle.wasm_spelled_parts_laws.specs.Whole.{source_of, with_customs, written_part}
-use Rattle.wasm_spelled_parts_laws.specs.Written.{DuePartsAreRead, DuePartsAreRewritten, DuePartsAreWritten, IsDue}
+use Rattle.wasm_spelled_parts_laws.specs.Written.{DuePartsAreRead, DuePartsAreRewritten, DuePartsAreWritten}
 use Rattle.wasm_spelled_parts_laws.proofs.Entries.{all_filtered, all_items}
 use Rattle.wasm_spelled_parts_laws.proofs.Fitting.{both_all}
 

@@ -1,27 +1,23 @@
 -- Lemmas: the items of a file's module in normal form, its types merged, are within their limits.
-use Rattle.std.specs.Prelude.{ℕ, ◌+◌, ◌<◌, ◌≤◌, ◌^◌, ◌≡◌, ◌==◌, ◌⊎◌, ◌&&◌, Bool, true, false, not, List, [], ◌∷◌, ◌++◌, length, map, filter, Option, Some, None, slice_get, slice_index_or, refl, if◌then◌else◌}
+use Rattle.std.specs.Prelude.{ℕ, ◌+◌, ◌<◌, ◌≤◌, ◌^◌, ◌≡◌, ◌⊎◌, ◌&&◌, Bool, true, false, List, [], ◌∷◌, length, map, Option, Some, None, refl, if◌then◌else◌}
 use Rattle.std.specs.List.{AllByRecursion, flat_map}
 use Rattle.std.specs.Option.{option_map}
-use Rattle.std.proofs.Common.{ap, sym, ◌∙◌, subst, arith, inl, inr}
+use Rattle.std.proofs.Common.{arith, inl, inr}
 use Rattle.std.proofs.lemmas.List.{length-map}
 use Rattle.walrus_forms.specs.Kinds.{Kind}
 use Rattle.walrus_forms.specs.Records.{TypeGroup}
-use Rattle.walrus_forms.specs.Renaming.{at, renamed_kind, renamed_value}
-use Rattle.walrus_types.specs.Mergers.{is_single}
+use Rattle.walrus_forms.specs.Renaming.{at}
 use Rattle.wasm_features.specs.declared.WasmFeatures.{WasmFeatures}
 use Rattle.wasm_operators.specs.Items.{Space, Types, Functions, Tables, Memories, Tags, Globals, ElementSegments, DataSegments, Locals, Labels}
-use Rattle.wasm_operators.specs.Ranges.{OperatorFits}
-use Rattle.wasm_operators.specs.Operators.{Seen}
-use Rattle.wasm_grammar.specs.Modules.{Expr, Active, Declared, Element, Elements, Expressions, Function, Functions as Listed, Global, Imported, Mode, Module, Origin, Own, Passive, Segment, Table}
-use Rattle.wasm_grammar.specs.States.{types_of}
+use Rattle.wasm_grammar.specs.Modules.{Expr, Active, Declared, Element, Elements, Expressions, Functions as Listed, Global, Imported, Mode, Origin, Own, Passive, Segment, Table}
 use Rattle.wasm_ruled_modules.specs.Rules.{around_bodies}
 use Rattle.wasm_module_rules.specs.Linked.{Each}
 use Rattle.wasm_normal_modules.specs.Modules.{ReadModulesMeetRules, by_types, each, retyped_element, retyped_expr, retyped_global, retyped_items, retyped_mode, retyped_origin, retyped_segment, retyped_table}
 use Rattle.wasm_ruled_modules.specs.Rules.{ReadModulesAreRuled}
-use Rattle.wasm_merged_modules.specs.Merged.{NoneStandBehind, TypesAreMerged, ids_of, is_filled, is_new, kept, kept_of, once, renamed_group, single}
-use Rattle.wasm_part.specs.Handlers.{handler_groups, lacking}
+use Rattle.wasm_merged_modules.specs.Merged.{NoneStandBehind, TypesAreMerged, ids_of, is_filled, is_new, kept, kept_of, renamed_group}
+use Rattle.wasm_part.specs.Handlers.{handler_groups}
 use Rattle.wasm_spelled_modules.specs.Spelled.{InitIsSpelled, IsSpelled, ModeIsSpelled, OriginIsSpelled}
-use Rattle.wasm_spelled_parts_laws.specs.Items.{AreIn, ElementIn, GlobalIn, GroupIn, ItemsIn, KindIn, SegmentIn, TableIn}
+use Rattle.wasm_spelled_parts_laws.specs.Items.{ElementIn, GlobalIn, GroupIn, ItemsIn, KindIn, SegmentIn, TableIn}
 use Rattle.wasm_spelled_parts_laws.specs.Merged.{MergedItemsAreIn}
 use Rattle.wasm_spelled_parts_laws.specs.Operators.{FittingNamesAreSmall, RenamedOperatorsFit, most_of}
 use Rattle.wasm_spelled_parts_laws.proofs.Fitting.{both_all}

@@ -1,6 +1,6 @@
 -- Lemmas: a body's operators are within their ranges in its normal form, and so are the types of its locals.
-use Rattle.std.specs.Prelude.{ℕ, zero, suc, ◌+◌, ◌<◌, ◌≤◌, ◌^◌, ◌≡◌, ◌==◌, nat_lt, ◌&&◌, ◌⊎◌, Bool, true, false, List, [], ◌∷◌, ◌++◌, filter, length, map, Option, Some, None, slice_get, unwrap_or, refl, if◌then◌else◌}
-use Rattle.std.specs.List.{AllByRecursion, flat_map}
+use Rattle.std.specs.Prelude.{ℕ, zero, suc, ◌+◌, ◌<◌, ◌≤◌, ◌^◌, ◌≡◌, ◌==◌, ◌&&◌, ◌⊎◌, Bool, true, false, List, [], ◌∷◌, ◌++◌, filter, length, map, Option, Some, None, slice_get, unwrap_or, refl, if◌then◌else◌}
+use Rattle.std.specs.List.{AllByRecursion}
 use Rattle.std.specs.Option.{option_map}
 use Rattle.std.proofs.Common.{ap, sym, ◌∙◌, subst, arith, inl, inr}
 use Rattle.std.proofs.lemmas.Bool.{cases_lt, lt-ltb, le-ltb}
@@ -13,7 +13,7 @@ use Rattle.wasm_features.specs.declared.WasmFeatures.{WasmFeatures}
 use Rattle.wasm_operators.specs.declared.block_type.BlockType.{BlockType}
 use Rattle.wasm_operators.specs.declared.block_type.BlockType.TheVariants as blocks
 use Rattle.wasm_operators.specs.declared.entry.Kind.TheVariants as immediates
-use Rattle.wasm_operators.specs.Items.{Form as ItemForm, Space, Types, Functions, Tables, Memories, Tags, Globals, ElementSegments, DataSegments, Locals, Labels, Item, Names, Number, S32, S64, Bits, Byte, Bytes, Heap, Block, Access, ManyLabels, ManyValues, ManyClauses, index, number, s32, s64, bits, run, any_byte, below, zero_byte, heap, block, access, labels, values, clauses}
+use Rattle.wasm_operators.specs.Items.{Form as ItemForm, Space, Types, Functions, Tables, Memories, Tags, Globals, ElementSegments, DataSegments, Locals, Labels, Item, index, number, s32, s64, bits, run, any_byte, below, zero_byte, heap, block, access, labels, values, clauses}
 use Rattle.wasm_operators.specs.Kinds.{forms}
 use Rattle.wasm_operators.specs.Names.{Name, Renaming, operator_names, renamed_operator}
 use Rattle.wasm_operators.specs.Operators.{Seen, kind_of}
@@ -22,7 +22,6 @@ use Rattle.wasm_operators.specs.Ranges.{BlockFits, ItemFits, ItemsFit, OperatorF
 use Rattle.wasm_grammar.specs.Modules.{Body, Function, Imported, Origin, Own}
 use Rattle.wasm_grammar.specs.Modules as grammar
 use Rattle.wasm_grammar.specs.States.{types_of}
-use Rattle.wasm_grammar.specs.TypeWords.{value_from}
 use Rattle.wasm_body_grammar.specs.Bodies.{most_locals}
 use Rattle.wasm_body_grammar.specs.Codes.{param_count}
 use Rattle.wasm_body_grammar.specs.Rules.{Around, found_in, latest_from, leads, pick, serves}

@@ -1,14 +1,13 @@
 -- Lemmas: the items of the part that is written of a file are within their limits.
-use Rattle.std.specs.Prelude.{ℕ, zero, suc, ◌+◌, ◌<◌, ◌≤◌, ◌^◌, ◌≡◌, ◌⊎◌, Bool, true, false, not, List, [], ◌∷◌, ◌++◌, length, map, filter, Option, Some, None, IsSome, slice_get, slice_index_or, unwrap_or, refl}
-use Rattle.std.specs.List.{AllByRecursion, cons_option, filter_map, flat_map}
+use Rattle.std.specs.Prelude.{ℕ, suc, ◌+◌, ◌<◌, ◌≤◌, ◌^◌, ◌≡◌, ◌⊎◌, true, List, [], ◌∷◌, ◌++◌, length, map, Option, Some, None, IsSome, slice_get, slice_index_or, unwrap_or, refl}
+use Rattle.std.specs.List.{AllByRecursion, cons_option, filter_map}
 use Rattle.std.specs.Option.{option_map}
-use Rattle.std.proofs.Common.{ap, sym, ◌∙◌, subst, arith, inl, inr}
+use Rattle.std.proofs.Common.{arith, inl, inr}
 use Rattle.std.proofs.lemmas.List.{length-append, length-map}
 use Rattle.std.proofs.lemmas.Option.{slice_get_within}
 use Rattle.walrus_forms.specs.Kinds.{Kind}
 use Rattle.walrus_forms.specs.Records.{TypeGroup}
-use Rattle.walrus_forms.specs.Renaming.{renamed_kind, renamed_value}
-use Rattle.walrus_forms.specs.declared.value.ValType.{ValType}
+use Rattle.walrus_forms.specs.Renaming.{renamed_kind}
 use Rattle.walrus_types.specs.Emission.{IsEmission, described_group, index_at, written_kind, written_types}
 use Rattle.walrus_types.specs.Items.{Group}
 use Rattle.walrus_types.specs.Table.{Table}
@@ -20,24 +19,20 @@ use Rattle.wasm_operators.specs.Items.{Space, Types, Functions, Tables, Memories
 use Rattle.wasm_operators.specs.Names.{Name, Renaming, operator_names, renamed_operator}
 use Rattle.wasm_operators.specs.Operators.{Seen}
 use Rattle.wasm_operators.specs.Ranges.{OperatorFits}
-use Rattle.wasm_grammar.specs.Modules.{Active, Body, Declared, Element, Elements, Export, Expr, Expressions, Function, Functions as Listed, Global, Import, Imported, Memory, Mode, Module, Origin, Own, Passive, Placed, Segment, Table as TableItem, Tag, empty}
-use Rattle.wasm_grammar.specs.States.{types_of}
+use Rattle.wasm_grammar.specs.Modules.{Active, Body, Declared, Element, Elements, Export, Expr, Expressions, Function, Functions as Listed, Imported, Mode, Module, Origin, Own, Passive, Placed, Segment, Tag}
 use Rattle.wasm_module_bytes.specs.Due.{IsExported, IsWritten}
 use Rattle.wasm_module_rules.specs.Linked.{Each}
 use Rattle.wasm_body_grammar.specs.Rules.{Around}
-use Rattle.wasm_ruled_modules.specs.Rules.{IsCounted, around_bodies}
+use Rattle.wasm_ruled_modules.specs.Rules.{IsCounted}
 use Rattle.wasm_spelled_modules.specs.Spelled.{InitIsSpelled, IsSpelled, ModeIsSpelled, OriginIsSpelled}
 use Rattle.wasm_merged_modules.specs.Merged.{is_filled, kinds_of}
 use Rattle.wasm_part.specs.Closed.{BodyIn as BodyKept, ExprIn, InitIn, IsClosed, ItemIn, ItemsIn as ItemsKept, ModeIn, NameIn as NameKept, NumberIn as NumberKept, OperatorIn, OwnIn, PlacedIn, Rise, StartIn}
 use Rattle.wasm_part.specs.Kept.{IsShared}
-use Rattle.wasm_part.specs.Order.{HasDeclared}
 use Rattle.wasm_part.specs.Part.{IsIn, Plan, declaring, number_in, part, picked, renumbered_body, renumbered_element, renumbered_export, renumbered_expr, renumbered_function, renumbered_global, renumbered_import, renumbered_items, renumbered_memory, renumbered_mode, renumbered_own, renumbered_placed, renumbered_segment, renumbered_table, renumbered_tag}
-use Rattle.wasm_part.specs.Written.{GroupsStand}
-use Rattle.wasm_part.proofs.Picked.{all_at, each_at, each_joined, each_picked, slot_there}
-use Rattle.wasm_spelled_parts_laws.specs.Items.{AreIn, BodyIn, ElementIn, GlobalIn, GroupIn, ImportIn, ItemsIn, KindIn, MemoryIn, NameIn, NumberIn, OriginIn, SegmentIn, TableIn, ValueIn}
+use Rattle.wasm_part.proofs.Picked.{each_at, each_joined, each_picked}
+use Rattle.wasm_spelled_parts_laws.specs.Items.{AreIn, ElementIn, GlobalIn, GroupIn, ImportIn, ItemsIn, KindIn, MemoryIn, NameIn, NumberIn, OriginIn, SegmentIn, TableIn}
 use Rattle.wasm_spelled_parts_laws.specs.Operators.{FittingNamesAreSmall, NamesFit, RenamedOperatorsFit, most_of}
 use Rattle.wasm_spelled_parts_laws.specs.Parts.{AreNumbered, ItemsNumbered, ModeNumbered}
-use Rattle.wasm_spelled_parts_laws.proofs.Fitting.{both_all}
 use Rattle.wasm_spelled_parts_laws.proofs.Values.{kind_retyped, ref_retyped, value_retyped, values_retyped}
 
 -- ---- items, where what is kept has low numbers
@@ -133,9 +128,6 @@ rise_few bound (n ∷ ns) from rise least most le =
     let lt = most 0 n refl in
     let later = rise_few bound ns (suc n) (λ i j k l before x y. rise (suc i) (suc j) k l (omega (arith, before)) x y) (λ i k x. rise 0 (suc i) n k (omega arith) refl x) (λ i k x. most (suc i) k x) (omega (arith, lt)) in
     omega (arith, first, later)
-
-all_member : {A : Type 0} (P : A → Type 0) (xs : List A) → AllByRecursion P xs → (i : ℕ) (x : A) → slice_get xs i ≡ Some x → P x
-all_member P xs h i x e = all_at P xs h i x e
 
 pub some_at : {A : Type 0} (o : Option A) → IsSome o → (x : A) × (o ≡ Some x)
 some_at None h = absurd cc

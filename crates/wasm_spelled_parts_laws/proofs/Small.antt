@@ -1,9 +1,9 @@
 -- Lemmas: what is written for an operator within its ranges is bytes.
-use Rattle.std.specs.Prelude.{ℕ, pos, zero, suc, ◌+◌, ◌<◌, ◌≤◌, ◌^◌, ◌-◌, ◌%◌, ◌/◌, ◌≡◌, ◌==◌, ◌&&◌, nat_le, ◌⊎◌, Bool, true, false, List, [], ◌∷◌, ◌++◌, All, length, Some, refl, if◌then◌else◌}
+use Rattle.std.specs.Prelude.{ℕ, pos, zero, suc, ◌+◌, ◌<◌, ◌≤◌, ◌^◌, ◌-◌, ◌%◌, ◌/◌, ◌≡◌, ◌==◌, ◌&&◌, nat_le, Bool, true, false, List, [], ◌∷◌, ◌++◌, length, refl, if◌then◌else◌}
 use Rattle.std.specs.List.{AllByRecursion, flat_map}
-use Rattle.std.proofs.Common.{ap, sym, ◌∙◌, subst, arith, inl, inr}
+use Rattle.std.proofs.Common.{sym, subst, arith, inl, inr}
 use Rattle.std.proofs.lemmas.Bool.{leb-true}
-use Rattle.std.proofs.lemmas.List.Elements.{All-from_recursion, All-head, All-tail, recursion_from_All}
+use Rattle.std.proofs.lemmas.List.Elements.{All-from_recursion, recursion_from_All}
 use Rattle.wasm_features.specs.declared.WasmFeatures.{WasmFeatures}
 use Rattle.wasm_reader.specs.Numbers.{Spells, Style, signed, unsigned}
 use Rattle.wasm_ref_types.specs.declared.heap.AbstractHeapType.{AbstractHeapType}
@@ -13,7 +13,6 @@ use Rattle.wasm_ref_types.specs.declared.heap.HeapType.TheVariants.{Abstract, Co
 use Rattle.wasm_ref_types.specs.declared.index.UnpackedIndex.TheVariants.{Module, RecGroup, Id}
 use Rattle.wasm_ref_types.specs.declared.value.ValType.{ValType}
 use Rattle.wasm_ref_types.specs.declared.value.ValType.TheVariants.{I32, I64, F32, F64, V128, Ref}
-use Rattle.wasm_ref_types.specs.TypeSpellings.{long_byte}
 use Rattle.wasm_operators.specs.declared.block_type.BlockType.{BlockType}
 use Rattle.wasm_operators.specs.declared.block_type.BlockType.TheVariants as blocks
 use Rattle.wasm_operators.specs.declared.clause.Clause.{Clause}
@@ -26,8 +25,7 @@ use Rattle.wasm_operators.specs.Bytes.{abstract_code, access_bytes, block_bytes,
 use Rattle.wasm_operators.specs.Items.{Form, Item, Names, Number, S32, S64, Bits, Byte, Bytes, Heap, Block, Access, ManyLabels, ManyValues, ManyClauses, index, number, s32, s64, bits, run, any_byte, below, zero_byte, heap, block, access, labels, values, clauses}
 use Rattle.wasm_operators.specs.Kinds.{forms}
 use Rattle.wasm_operators.specs.Operators.{Seen, is_prefix}
-use Rattle.wasm_operators.specs.Ranges.{AccessFits, BlockFits, ClauseFits, HeapFits, IsU32, ItemFits, ItemsFit, ListFits, OperatorFits, ReferenceFits, ValueFits}
-use Rattle.wasm_operators.specs.Readings.{most}
+use Rattle.wasm_operators.specs.Ranges.{AccessFits, BlockFits, ClauseFits, HeapFits, IsU32, ItemFits, ItemsFit, ListFits, OperatorFits, ValueFits}
 use Rattle.wasm_operators.specs.Spellings.{SpellsCode}
 use Rattle.wasm_operators.specs.Vecs.{Small}
 use Rattle.wasm_operators.specs.Written.{prefix_not_zero}

@@ -1,8 +1,8 @@
 -- Lemmas: kinds of types within their limits have spellings, and those that are read are within them.
-use Rattle.std.specs.Prelude.{ℕ, suc, ◌+◌, ◌<◌, ◌≤◌, ◌^◌, ◌≡◌, ◌⊎◌, Bool, true, false, List, [], ◌∷◌, ◌++◌, length, map, Option, Some, None, refl, if◌then◌else◌}
+use Rattle.std.specs.Prelude.{ℕ, suc, ◌<◌, ◌≤◌, ◌^◌, ◌≡◌, ◌⊎◌, Bool, true, false, List, [], ◌∷◌, ◌++◌, length, map, Option, Some, None, refl}
 use Rattle.std.specs.List.{AllByRecursion, cons_option, filter_map, flat_map}
 use Rattle.std.specs.Option.{option_map, option_to_list}
-use Rattle.std.proofs.Common.{ap, sym, ◌∙◌, subst, arith, inl, inr}
+use Rattle.std.proofs.Common.{ap, sym, subst, arith, inl, inr}
 use Rattle.std.proofs.lemmas.List.{length-map}
 use Rattle.walrus_forms.specs.declared.value.FieldType.{FieldType}
 use Rattle.walrus_forms.specs.declared.value.StorageType.{StorageType}
@@ -10,7 +10,6 @@ use Rattle.walrus_forms.specs.declared.value.StorageType.TheVariants.{I8, I16, V
 use Rattle.walrus_forms.specs.declared.value.ValType.{ValType}
 use Rattle.walrus_forms.specs.Forms.{ArrayForm, Form, FunctionForm, StructForm}
 use Rattle.walrus_forms.specs.Kinds.{Kind, declared_kind}
-use Rattle.walrus_forms.specs.Records.{TypeGroup}
 use Rattle.wasm_features.specs.declared.WasmFeatures.{WasmFeatures}
 use Rattle.wasm_features.specs.Features.{GcTypes, enables}
 use Rattle.wasm_formats.specs.Bytes.{either_type}
@@ -25,7 +24,7 @@ use Rattle.wasm_composite_types.specs.declared.form.CompositeType.{CompositeType
 use Rattle.wasm_composite_types.specs.declared.field.FieldType.{FieldType as ReadField}
 use Rattle.wasm_composite_types.specs.declared.field.StorageType.{StorageType as ReadStorage}
 use Rattle.wasm_composite_types.specs.declared.field.StorageType.TheVariants as storages
-use Rattle.wasm_composite_types.specs.Spellings.{SpellsComposite, SpellsEither, SpellsField, SpellsForm, SpellsMutable, SpellsStorage}
+use Rattle.wasm_composite_types.specs.Spellings.{SpellsEither, SpellsField, SpellsForm, SpellsMutable, SpellsStorage}
 use Rattle.wasm_types.specs.declared.subtype.SubType.{SubType}
 use Rattle.wasm_types.specs.Spellings.{SpellsIndex, SpellsSub, SpellsSupertype, declared_byte}
 use Rattle.wasm_operators.specs.Bytes.{unsigned_bytes, value_bytes, vec_bytes}
@@ -37,8 +36,8 @@ use Rattle.wasm_grammar.specs.TypeWords.{value_from, value_of, value_told}
 use Rattle.wasm_sections.specs.TypeNames.{both, composite_form, field_of, form_of, kind_of, storage_of, super_of, told_all}
 use Rattle.wasm_sections.specs.TypeSection.{GroupEntry, Measured, behind, measured, placed, type_group}
 use Rattle.wasm_section_bytes.specs.Placed.{AllFit, EitherFits, SingleFits, group_placed, member_placed}
-use Rattle.wasm_section_bytes.specs.TypeBytes.{composite_bytes, declared_bytes, field_bytes, form_bytes, index_bytes, mutable_bytes, storage_bytes, sub_writer}
-use Rattle.wasm_module_bytes.specs.Due.{IsWritten, field_from, form_from, group_from, shaped, storage_from, sub_from}
+use Rattle.wasm_section_bytes.specs.TypeBytes.{field_bytes, form_bytes, index_bytes, mutable_bytes, storage_bytes, sub_writer}
+use Rattle.wasm_module_bytes.specs.Due.{field_from, form_from, storage_from, sub_from}
 use Rattle.wasm_spelled_parts_laws.specs.Items.{FieldIn, FormIn, GroupIn, KindIn, StorageIn, SupertypeIn, ValueIn}
 use Rattle.wasm_spelled_parts_laws.proofs.Small.{AreBytes, bytes_joined, small_bytes, u32_bytes, value_small}
 

@@ -1,8 +1,8 @@
 -- Lemmas: types within their limits have spellings, what has one is within them, and new numbers keep them there.
-use Rattle.std.specs.Prelude.{ℕ, ◌<◌, ◌≤◌, ◌^◌, ◌≡◌, ◌⊎◌, Bool, true, false, List, [], ◌∷◌, ◌++◌, length, map, Option, Some, None, refl}
-use Rattle.std.specs.List.{AllByRecursion, flat_map}
-use Rattle.std.specs.Option.{option_map, option_to_list}
-use Rattle.std.proofs.Common.{ap, sym, ◌∙◌, subst, arith, inl, inr}
+use Rattle.std.specs.Prelude.{ℕ, ◌<◌, ◌^◌, ◌≡◌, ◌⊎◌, Bool, true, List, [], ◌∷◌, map, Option, Some, None, refl}
+use Rattle.std.specs.List.{AllByRecursion}
+use Rattle.std.specs.Option.{option_map}
+use Rattle.std.proofs.Common.{ap, subst, arith, inl, inr}
 use Rattle.std.proofs.lemmas.List.{length-map}
 use Rattle.walrus_forms.specs.declared.value.AbstractHeapType.{AbstractHeapType}
 use Rattle.walrus_forms.specs.declared.value.AbstractHeapType.TheVariants as heaps
@@ -18,12 +18,10 @@ use Rattle.walrus_forms.specs.Forms.{ArrayForm, Form, FunctionForm, StructForm}
 use Rattle.walrus_forms.specs.Kinds.{Kind}
 use Rattle.walrus_forms.specs.Renaming.{renamed_field, renamed_form, renamed_heap, renamed_kind, renamed_ref, renamed_storage, renamed_value}
 use Rattle.wasm_features.specs.declared.WasmFeatures.{WasmFeatures}
-use Rattle.wasm_ref_types.specs.declared.value.ValType.{ValType as ReadValue}
 use Rattle.wasm_ref_types.specs.declared.value.ValType.TheVariants as values
-use Rattle.wasm_ref_types.specs.Reference.{Reference}
-use Rattle.wasm_ref_types.specs.TypeSpellings.{HasGcTypes, IsAbstract, SpellsReference, SpellsValue}
+use Rattle.wasm_ref_types.specs.TypeSpellings.{HasGcTypes}
 use Rattle.wasm_operators.specs.Bytes.{reference_bytes, value_bytes}
-use Rattle.wasm_operators.specs.Ranges.{HeapFits, ReferenceFits, ValueFits}
+use Rattle.wasm_operators.specs.Ranges.{ReferenceFits, ValueFits}
 use Rattle.wasm_operators.proofs.Types.{value_fits}
 use Rattle.wasm_grammar.specs.TypeWords.{abstract_from, abstract_of, heap_from, heap_of, ref_from, ref_of, ref_told, value_from, value_of, value_told}
 use Rattle.wasm_grammar_bytes.specs.Values.{ref_type_writer, value_type_writer}

@@ -1,30 +1,29 @@
 -- Lemmas: what is written of a file is within its limits.
-use Rattle.std.specs.Prelude.{ℕ, zero, suc, ◌+◌, ◌<◌, ◌≤◌, ◌^◌, ◌≡◌, ◌⊎◌, Bool, true, false, List, [], ◌∷◌, ◌++◌, length, map, Option, Some, None, IsSome, slice_get, slice_index_or, refl}
+use Rattle.std.specs.Prelude.{ℕ, ◌<◌, ◌≤◌, ◌^◌, ◌≡◌, Bool, true, List, [], ◌∷◌, length, Some, None, IsSome, slice_index_or, refl}
 use Rattle.std.specs.List.{AllByRecursion, flat_map}
 use Rattle.std.specs.Option.{option_map}
-use Rattle.std.proofs.Common.{ap, sym, ◌∙◌, subst, arith, inl, inr}
+use Rattle.std.proofs.Common.{sym, subst, arith}
 use Rattle.std.proofs.lemmas.List.{length-map}
 use Rattle.walrus_forms.specs.Kinds.{Kind}
 use Rattle.walrus_forms.specs.Records.{TypeGroup}
 use Rattle.walrus_forms.specs.Renaming.{at}
-use Rattle.walrus_types.specs.Emission.{described_group, index_at, written_kind}
+use Rattle.walrus_types.specs.Emission.{index_at, written_kind}
 use Rattle.wasm_features.specs.declared.WasmFeatures.{WasmFeatures}
 use Rattle.wasm_ref_types.specs.TypeSpellings.{HasGcTypes}
 use Rattle.wasm_operators.specs.Items.{Types, Functions}
 use Rattle.wasm_grammar.specs.Modules.{Body, Function, Imported, Module, Origin, Own, Placed, empty}
 use Rattle.wasm_grammar.specs.States.{types_of}
 use Rattle.wasm_module_bytes.specs.Due.{IsWritten}
-use Rattle.wasm_module_rules.specs.Linked.{Each}
 use Rattle.wasm_body_grammar.specs.Rules.{Around}
 use Rattle.wasm_ruled_modules.specs.Rules.{ReadModulesAreRuled, around_bodies}
 use Rattle.wasm_normal_modules.specs.Modules.{ReadModulesMeetRules, normal_function}
-use Rattle.wasm_merged_modules.specs.Merged.{MissingKindsAreNew, NewKindsStandBehind, ids_of, is_filled, kept_of, kinds_of, once}
-use Rattle.wasm_part.specs.Closed.{BlockServes, IsClosed, Rise, SegmentCounts}
+use Rattle.wasm_merged_modules.specs.Merged.{MissingKindsAreNew, NewKindsStandBehind, ids_of, is_filled, kept_of, once}
+use Rattle.wasm_part.specs.Closed.{IsClosed, Rise, SegmentCounts}
 use Rattle.wasm_part.specs.Emitted.{EmittedTypesStand}
 use Rattle.wasm_part.specs.Handlers.{HandlersAreMissing, handler_groups, lacking}
 use Rattle.wasm_part.specs.Kept.{AreFilled, BodyCounts, BodyPicked, KeptIsClosed, PicksServe}
 use Rattle.wasm_part.specs.Order.{HasDeclared}
-use Rattle.wasm_part.specs.Part.{IsIn, Plan, part}
+use Rattle.wasm_part.specs.Part.{IsIn, Plan}
 use Rattle.wasm_part.specs.Seen.{file_seen}
 use Rattle.wasm_part.proofs.Picked.{all_at, each_at, slot_there}
 use Rattle.wasm_rewritten.specs.Orderly.{ReadFilesAreOrderly}
