@@ -1,5 +1,5 @@
 -- Lemmas: what is written of a module that was read stands for its file.
-use Rattle.std.specs.Prelude.{ℕ, ◌≡◌, ◌++◌, true, List, [], ◌∷◌, length, map, Option, Some, None, slice_get, refl}
+use Rattle.std.specs.Prelude.{ℕ, ◌≡◌, true, List, [], ◌∷◌, length, map, Option, Some, None, refl}
 use Rattle.std.specs.Option.{option_map}
 use Rattle.std.proofs.Common.{ap, sym, ◌∙◌, subst}
 use Rattle.walrus_config.specs.declared.config.ModuleConfig.{ModuleConfig}
@@ -30,7 +30,7 @@ use Rattle.walrus_code_laws.specs.Parts as code
 use Rattle.walrus_kept_laws.specs.Alike.{KeptAlike}
 use Rattle.walrus_kept_laws.specs.Kept.{ListsJust, PlansHaveKept}
 use Rattle.walrus_kept_laws.specs.Stay.{NumberedLeft, PartsStay}
-use Rattle.walrus_kept_types_laws.specs.Placed.{place_among, placed_indices, placed_table}
+use Rattle.walrus_kept_types_laws.specs.Placed.{place_among, placed_indices}
 use Rattle.walrus_kept_types_laws.specs.Read.{HandlersAreLacking}
 use Rattle.walrus_kept_types_laws.specs.Written.{AreLeft, WritesTypes, are_left}
 use Rattle.walrus_declared_laws.specs.Emitted.{plan_with}
@@ -45,7 +45,6 @@ use Rattle.wasm_part.specs.Agree.{AgreeOn}
 use Rattle.wasm_part.specs.Closed.{Rise}
 use Rattle.wasm_part.specs.Handlers.{handler_groups}
 use Rattle.wasm_part.specs.Kept.{HasKept}
-use Rattle.wasm_part.specs.Order.{InOrder}
 use Rattle.wasm_part.specs.Part.{Plan, part}
 use Rattle.wasm_part.specs.Seen.{file_seen, seen_as}
 use Rattle.wasm_part.specs.Stands.{Stands}
@@ -148,9 +147,9 @@ module _ (v : Numbered) (t : Table) (p : Plan) (indices : List (Option ℕ)) whe
   }
 
 module _ {B : Type 0} (stand_so : EmittedPartsStand B) (numbered_left : NumberedLeft) (stay : PartsStay) (have_kept : PlansHaveKept B) (lacking : HandlersAreLacking) (merged : MeaningsAreMerged B) (picked : ReadFilesArePicked)
-  (place_plans : KeptPlansArePlaced) (declare : DeclaredAreKept) (list_types : LeftTypesAreListed) (list_living : PlansListLiving B) (list_declaring : DeclaringPlansListLiving)
-  (config : ModuleConfig) (bytes : List ℕ) (file : grammar.Module) (found : Ids) (read kept left : Module B) (facts : List BodyFacts) (order : List ℕ) (emitted : EmittedTypes)
-  (h : IsLeft config bytes file found read kept left facts order emitted) where
+    (place_plans : KeptPlansArePlaced) (declare : DeclaredAreKept) (list_types : LeftTypesAreListed) (list_living : PlansListLiving B) (list_declaring : DeclaringPlansListLiving)
+    (config : ModuleConfig) (bytes : List ℕ) (file : grammar.Module) (found : Ids) (read kept left : Module B) (facts : List BodyFacts) (order : List ℕ) (emitted : EmittedTypes)
+    (h : IsLeft config bytes file found read kept left facts order emitted) where
   abbrev fs : List ℕ
   fs = undeclared_of kept facts
 
