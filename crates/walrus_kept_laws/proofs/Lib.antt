@@ -13,5 +13,9 @@ mod Turns
 mod Fit
 mod Functions
 mod Locals
+mod Bare
+mod Context
+mod Sees
+mod Bodies
 mod Kept
 mod Planned
