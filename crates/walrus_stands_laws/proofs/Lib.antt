@@ -3,3 +3,4 @@ mod Turns
 mod Placed
 mod Types
 mod Listed
+mod Stands

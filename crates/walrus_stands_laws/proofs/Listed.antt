@@ -1,30 +1,25 @@
 -- Lemmas: plans of emission list just what lives.
-use Rattle.std.specs.Prelude.{ℕ, zero, suc, ◌≡◌, ◌⊎◌, ◌+◌, ◌<◌, Bool, true, false, List, [], ◌∷◌, ◌++◌, length, map, filter, Contains, Option, Some, None, IsSome, slice_get, slice_index_or, refl, if◌then◌else◌}
+use Rattle.std.specs.Prelude.{ℕ, zero, suc, ◌≡◌, ◌+◌, ◌<◌, Bool, true, false, List, [], ◌∷◌, ◌++◌, length, map, filter, Option, Some, None, IsSome, slice_get, slice_index_or, refl, if◌then◌else◌}
 use Rattle.std.specs.List.{AllByRecursion, cons_option, filter_map}
 use Rattle.std.specs.Option.{option_map}
 use Rattle.std.proofs.Common.{ap, sym, ◌∙◌, subst, arith, inl, inr}
 use Rattle.std.proofs.lemmas.List.{map-append}
 use Rattle.std.proofs.lemmas.Option.{none-some, same_Some}
 use Rattle.walrus_arena.specs.Arena.{Arena, entries_from}
-use Rattle.walrus_emit.specs.Left.{AddsDeclared, Declares}
+use Rattle.walrus_emit.specs.Left.{AddsDeclared}
 use Rattle.walrus_emit_due.specs.Slots.{live_at}
 use Rattle.walrus_emit_numbers.specs.Numbers.{functions_at}
-use Rattle.walrus_emit_numbers.specs.declared.facts.BodyFacts.{BodyFacts}
 use Rattle.walrus_meaning.specs.Meaning.{means, own_element, own_function}
 use Rattle.walrus_module.specs.Parts.{Module as Parts, parts}
-use Rattle.walrus_module.specs.declared.module.Module.{Module}
 use Rattle.walrus_module_items.specs.declared.element.Element.{Element}
-use Rattle.walrus_types.specs.declared.emit.EmittedTypes.{EmittedTypes}
 use Rattle.walrus_due_laws.specs.FunctionTypes.{HaveBodies}
-use Rattle.walrus_due_laws.specs.Listed.{LivingAreListed}
 use Rattle.walrus_parse_gc_laws.specs.Numbered.{numbered, numbered_function}
-use Rattle.walrus_plan_laws.specs.Emissions.{HasPlan}
-use Rattle.walrus_plan_laws.specs.Plans.{own_of, plan_of}
+use Rattle.walrus_plan_laws.specs.Plans.{own_of}
 use Rattle.wasm_canonical.specs.Dense.{IsOwnFunction}
 use Rattle.wasm_grammar.specs.Modules as grammar
 use Rattle.wasm_import_links.specs.Links.{ImportsLink, slot_import}
 use Rattle.wasm_operators.specs.Items.{Space, Functions, Tables, Memories, Tags, Globals, ElementSegments, DataSegments}
-use Rattle.wasm_part.specs.Kept.{AreFilled, ListsItems}
+use Rattle.wasm_part.specs.Kept.{AreFilled}
 use Rattle.wasm_part.specs.Order.{brought_by, brought_to, import_of}
 use Rattle.wasm_part.specs.Part.{Plan}
 use Rattle.walrus_declared_laws.specs.Emitted.{living, plan_with}

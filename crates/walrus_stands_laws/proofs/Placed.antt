@@ -1,26 +1,23 @@
 -- Lemmas: a plan that has just what is kept lists each item once, at its new number, and globals by number.
-use Rattle.std.specs.Prelude.{ℕ, zero, suc, ◌≡◌, ◌⊎◌, ◌+◌, ◌<◌, Bool, true, false, List, [], ◌∷◌, ◌++◌, length, map, Option, Some, None, IsSome, slice_get, slice_index_or, refl, if◌then◌else◌}
+use Rattle.std.specs.Prelude.{ℕ, zero, suc, ◌≡◌, ◌⊎◌, ◌+◌, ◌<◌, Bool, true, List, [], ◌∷◌, ◌++◌, length, map, Option, Some, None, IsSome, slice_get, slice_index_or, refl, if◌then◌else◌}
 use Rattle.std.specs.List.{AllByRecursion, cons_option, filter_map}
 use Rattle.std.proofs.Common.{ap, sym, ◌∙◌, subst, arith, inl, inr}
 use Rattle.std.proofs.lemmas.Bool.{cases_Bool, cases_lt, false≢true}
 use Rattle.std.proofs.lemmas.Option.{none-some, same_Some}
-use Rattle.walrus_forms.specs.Records.{TypeGroup}
 use Rattle.walrus_forms.specs.Renaming.{at}
-use Rattle.wasm_features.specs.declared.WasmFeatures.{WasmFeatures}
 use Rattle.wasm_formats.specs.declared.fault.Space.{Space as FileSpace}
 use Rattle.wasm_formats.specs.declared.fault.Space.TheVariants as spaces
 use Rattle.wasm_operators.specs.Items.{Space, Types, Functions, Tables, Memories, Tags, Globals, ElementSegments, DataSegments, Locals, Labels}
-use Rattle.wasm_grammar.specs.Modules.{Expr, Global, Import, Imported, Item, Module, Origin, Own}
+use Rattle.wasm_grammar.specs.Modules.{Expr, Global, Import, Imported, Module, Origin, Own}
 use Rattle.wasm_body_grammar.specs.Rules.{space_of}
 use Rattle.wasm_import_links.specs.Links.{ImportsLink, brought, global_brought, origin_import, slot_import}
 use Rattle.wasm_merged_modules.specs.Merged.{ids_of, merged_module}
 use Rattle.wasm_part.specs.Closed.{IsListed, Rise}
-use Rattle.wasm_part.specs.Kept.{AreFilled, HasKept, IsShared}
-use Rattle.wasm_part.specs.Order.{InOrder, OwnBefore, brought_by, brought_to, import_of, is_to, size_of}
-use Rattle.wasm_part.specs.Part.{IsIn, Plan}
-use Rattle.wasm_part.specs.Seen.{file_seen}
+use Rattle.wasm_part.specs.Kept.{AreFilled, IsShared}
+use Rattle.wasm_part.specs.Order.{InOrder, OwnBefore, brought_by, brought_to, import_of, is_to}
+use Rattle.wasm_part.specs.Part.{Plan}
 use Rattle.wasm_rewritten.specs.Orderly.{ReadFilesAreOrderly}
-use Rattle.walrus_stands_laws.specs.Placed.{IsPlaced, KeptPlansArePlaced}
+use Rattle.walrus_stands_laws.specs.Placed.{KeptPlansArePlaced}
 use Rattle.walrus_stands_laws.proofs.Turns.{InTurn, OriginBefore, read_turns, turn_at, turn_sent}
 
 -- ---- spaces

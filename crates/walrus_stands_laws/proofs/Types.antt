@@ -1,28 +1,25 @@
 -- Lemmas: the types that are left are listed by their places.
-use Rattle.std.specs.Prelude.{ℕ, zero, suc, ◌≡◌, ◌≢◌, ◌||◌, ◌==◌, Bool, true, false, Contains, List, [], ◌∷◌, map, filter, Option, Some, None, IsSome, is_some, slice_get, slice_index_or, refl, if◌then◌else◌}
+use Rattle.std.specs.Prelude.{ℕ, zero, suc, ◌≡◌, ◌||◌, Bool, true, false, Contains, List, [], ◌∷◌, map, filter, Option, Some, None, IsSome, is_some, slice_get, slice_index_or, refl, if◌then◌else◌}
 use Rattle.std.specs.List.{list_any}
 use Rattle.std.specs.Option.{option_and_then, unwrap_or}
 use Rattle.std.proofs.Common.{ap, sym, ◌∙◌, subst, arith, inl, inr}
 use Rattle.std.proofs.lemmas.Bool.{eq-eqb, ne_eqb}
 use Rattle.std.proofs.lemmas.Option.{get_or_from_slice_get, none-some, same_Some, slice_get_within}
-use Rattle.walrus_forms.specs.Kinds.{Kind}
 use Rattle.walrus_forms.specs.Renaming.{index_at}
 use Rattle.walrus_meaning.specs.Meaning.{type_ids}
 use Rattle.walrus_module.specs.Items.{written, written_type}
 use Rattle.walrus_types.specs.Emission.{IsEmission, is_written, shown_kind, written_groups, written_in, written_types}
-use Rattle.walrus_types.specs.Inverse.{AreInverse}
 use Rattle.walrus_types.specs.Items.{Item, Group}
 use Rattle.walrus_types.specs.Table.{Table, type_at}
 use Rattle.walrus_types.specs.TypeLaws.{AreGrouped}
-use Rattle.walrus_types.proofs.OnceLemmas.{is_shown, place_written, reordered, some_is}
+use Rattle.walrus_types.proofs.OnceLemmas.{place_written, reordered, some_is}
 use Rattle.walrus_types.proofs.Places.{Has, at_map, contains_has, has_contains, map_at, seat, unseat}
 use Rattle.walrus_type_arenas.proofs.DeleteLemmas.{contains-filter}
 use Rattle.walrus_pass_laws.proofs.Sets.{In, contains_of, in_of}
 use Rattle.walrus_kept_types_laws.specs.Placed.{place_among, placed_indices}
-use Rattle.walrus_kept_types_laws.specs.Written.{AreLeft}
 use Rattle.walrus_kept_laws.proofs.Reach.{AreOnce}
 use Rattle.walrus_kept_laws.proofs.Types.{ids_once, type_placed}
-use Rattle.walrus_stands_laws.specs.Types.{LeftTypesAreListed, ListsTypes}
+use Rattle.walrus_stands_laws.specs.Types.{LeftTypesAreListed}
 
 -- ---- places
 

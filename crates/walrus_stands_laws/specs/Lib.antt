@@ -2,3 +2,4 @@ pub mod Placed
 pub mod Declared
 pub mod Types
 pub mod Listed
+pub mod Stands

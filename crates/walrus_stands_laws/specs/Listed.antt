@@ -1,5 +1,5 @@
 -- What a plan of emission lists: nothing but what lives in the module; and so of the module to which a segment that declares functions was added, where the plan adds it.
-use Rattle.std.specs.Prelude.{ℕ, ◌≡◌, ◌++◌, List, []}
+use Rattle.std.specs.Prelude.{ℕ, ◌≡◌, ◌++◌, List}
 use Rattle.walrus_emit.specs.Left.{Declares}
 use Rattle.walrus_emit_numbers.specs.declared.facts.BodyFacts.{BodyFacts}
 use Rattle.walrus_meaning.specs.Meaning.{means}

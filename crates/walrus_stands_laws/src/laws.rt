@@ -3,9 +3,14 @@
 ghost use Rattle.walrus_stands_laws.specs.Declared.{DeclaredAreKept};
 ghost use Rattle.walrus_stands_laws.specs.Listed.{DeclaringPlansListLiving, PlansListLiving};
 ghost use Rattle.walrus_stands_laws.specs.Placed.{KeptPlansArePlaced};
+ghost use Rattle.walrus_stands_laws.specs.Stands.{EmissionsStandForFiles, NumberedIsOne};
 ghost use Rattle.walrus_stands_laws.specs.Types.{LeftTypesAreListed};
 
-use wasm_rewritten::laws::read_files_are_orderly;
+use walrus_declared_laws::laws::emitted_parts_stand;
+use walrus_kept_laws::laws::{parts_stay, plans_have_kept};
+use walrus_kept_types_laws::laws::handlers_are_lacking;
+use walrus_parse_gc_laws::ruled::meanings_of_read_modules_are_merged;
+use wasm_rewritten::laws::{read_files_are_orderly, read_files_are_picked};
 
 /// A plan that has just what is kept of a file's module, in order, lists each item at its new number, and globals by number (Core Specification, indices).
 pub fn kept_plans_are_placed()
@@ -33,3 +38,26 @@ pub fn plans_list_living<B>()
 pub fn declaring_plans_list_living()
     ensures { DeclaringPlansListLiving }
 {}
+
+/// The ways in which the locals of bodies are numbered by their places are one.
+pub fn numbered_is_one()
+    ensures { NumberedIsOne }
+{}
+
+/// What emission writes of a module that was read, and of which what isn't kept was dropped, stands for its file: it is the part of the file's merged module that has
+/// just what is kept, in order, with the functions declared that have to be.
+pub fn emissions_stand_for_files<B>()
+    ensures { EmissionsStandForFiles B }
+{
+    emitted_parts_stand::<B>();
+    parts_stay();
+    plans_have_kept::<B>();
+    handlers_are_lacking();
+    meanings_of_read_modules_are_merged::<B>();
+    read_files_are_picked();
+    kept_plans_are_placed();
+    declared_are_kept();
+    left_types_are_listed();
+    plans_list_living::<B>();
+    declaring_plans_list_living();
+}
