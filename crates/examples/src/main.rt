@@ -10,8 +10,10 @@
 #![tactic(auto)]
 
 mod count_calls;
+mod digits;
 mod functions;
 mod mappings;
+mod moved;
 mod reached;
 mod sizes;
 mod snip;
@@ -20,6 +22,7 @@ mod strip;
 mod why;
 
 use program_parts::{Failure, finish, read_file, words_of};
+use std::alloc::{AllocError, Global};
 use std::process::ExitCode;
 
 const USAGE: &str = "examples strip|sizes|snip|count_calls|source_map|why IN .., or each FILE";
@@ -40,26 +43,39 @@ fn run(rt: &HostRuntime, words: &[String]) -> Result<(), Failure> {
     }
 }
 
+// The words of a line.
+fn words_in(alloc: Global, line: &str) -> Result<Vec<String>, AllocError> {
+    let mut words = Vec::new(alloc);
+    for word in line.split(' ') {
+        if !word.is_empty() {
+            words.push(String::from_str(alloc, word)?)?;
+        }
+    }
+    Ok(words)
+}
+
 // Does what a line says, behind the line itself.
 fn run_line(rt: &HostRuntime, line: &str) -> Result<(), Failure> {
     println!(rt; "> {line}")?;
-    let mut words = Vec::new(rt.alloc());
-    for word in line.split_whitespace() {
-        words.push(String::from_str(rt.alloc(), word)?)?;
-    }
+    let words = words_in(rt.alloc(), line)?;
     run(rt, words.as_slice())
+}
+
+// Does what each line says.
+fn run_lines(rt: &HostRuntime, text: &str) -> Result<(), Failure> {
+    for line in text.lines() {
+        run_line(rt, line)?;
+    }
+    Ok(())
 }
 
 // Does what each line of a file says.
 fn run_each(rt: &HostRuntime, file: &str) -> Result<(), Failure> {
     let bytes = read_file(rt, file)?;
-    let Ok(text) = std::str::from_utf8(bytes.as_slice()) else {
-        return Err(Failure::Wrong("the file is no text"));
-    };
-    for line in text.lines() {
-        run_line(rt, line)?;
+    match std::str::from_utf8(bytes.as_slice()) {
+        Ok(text) => run_lines(rt, text),
+        Err(_) => Err(Failure::Wrong("the file is no text")),
     }
-    Ok(())
 }
 
 fn run_words(rt: &HostRuntime) -> Result<(), Failure> {

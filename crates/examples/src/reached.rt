@@ -24,41 +24,82 @@ pub struct Step {
 pub struct Reached {
     /// The items.
     pub steps: Vec<Step>,
-    positions: HashMap<(usize, u32), usize>,
+    positions: HashMap<u64, usize>,
+}
+
+// A number for the item, which no other has.
+fn key(item: Item) -> u64 {
+    item.space_number() as u64 * 4294967296 + u64::from(item.id)
 }
 
 impl Reached {
-    /// The position of an item, where it was reached.
-    pub fn position(&self, item: Item) -> Option<usize> {
-        self.positions.get(&(item.space_number(), item.id)).copied()
+    fn new(alloc: Global) -> Self {
+        Reached {
+            steps: Vec::new(alloc),
+            positions: HashMap::new(alloc),
+        }
     }
 
-    fn add(&mut self, item: Item, root: Option<Reason>, by: usize) -> Result<()> {
-        if self.position(item).is_none() {
-            self.positions
-                .insert((item.space_number(), item.id), self.steps.len())?;
-            self.steps.push(Step { item, root, by })?;
-        }
+    /// The position of an item, where it was reached.
+    pub fn position(&self, item: Item) -> Option<usize> {
+        self.positions.get(&key(item)).copied()
+    }
+
+    fn push(&mut self, item: Item, root: Option<Reason>, by: usize) -> Result<()> {
+        self.positions.insert(key(item), self.steps.len())?;
+        self.steps.push(Step { item, root, by })?;
         Ok(())
     }
+
+    // Adds an item, where it wasn't reached yet.
+    fn add(&mut self, item: Item, root: Option<Reason>, by: usize) -> Result<()> {
+        if self.position(item).is_some() {
+            return Ok(());
+        }
+        self.push(item, root, by)
+    }
+}
+
+// Adds the roots.
+fn add_roots(alloc: Global, reached: &mut Reached, module: &Module) -> Result<()> {
+    let roots = roots(alloc, module)?;
+    for (item, why) in roots.as_slice() {
+        reached.add(*item, Some(*why), 0)?;
+    }
+    Ok(())
+}
+
+// Adds what the item at this position refers to.
+fn add_references(
+    alloc: Global,
+    reached: &mut Reached,
+    module: &Module,
+    item: Item,
+    by: usize,
+) -> Result<()> {
+    let references = references(alloc, module, item)?;
+    for item in references.as_slice() {
+        reached.add(*item, None, by)?;
+    }
+    Ok(())
+}
+
+// Adds what is reached from the items that are there, nearest first.
+fn add_all(alloc: Global, reached: &mut Reached, module: &Module) -> Result<()> {
+    for next in 0..MOST as usize {
+        let Some(step) = reached.steps.get(next) else {
+            return Ok(());
+        };
+        let item = step.item;
+        add_references(alloc, reached, module, item, next)?;
+    }
+    Ok(())
 }
 
 /// All that is reached, nearest first.
 pub fn reach(alloc: Global, module: &Module) -> Result<Reached> {
-    let mut reached = Reached {
-        steps: Vec::new(alloc),
-        positions: HashMap::new(alloc),
-    };
-    for (item, why) in roots(alloc, module)? {
-        reached.add(item, Some(why), 0)?;
-    }
-    for next in 0..MOST as usize {
-        let Some(step) = reached.steps.get(next) else {
-            break;
-        };
-        for item in references(alloc, module, step.item)? {
-            reached.add(item, None, next)?;
-        }
-    }
+    let mut reached = Reached::new(alloc);
+    add_roots(alloc, &mut reached, module)?;
+    add_all(alloc, &mut reached, module)?;
     Ok(reached)
 }

@@ -1,70 +1,55 @@
 //! Lets a source map follow a module as it is written anew, or tells where each operator went.
 
-use crate::mappings::{Segment, decode, encode};
+use crate::mappings::decode;
+use crate::moved::followed;
 use program_parts::{Failure, read_file, write_file};
 use serde_json::Value;
-use std::alloc::Global;
-use walrus::ir::InstrLocId;
+use std::alloc::{AllocError, Global};
 use walrus::{
-    CodeTransform, EmitWasm, FromBuffer, Module, ModuleConfig, Places, Result, code_section_start,
+    CodeTransform, EmitWasm, FromBuffer, Module, ModuleConfig, Result, code_section_start,
 };
 
 const USAGE: &str = "examples source_map IN OUT [MAP NEWMAP]  (no MAP: prints pairs of offsets)";
 
-// Where the operator at an offset went; nothing where it is gone. Locations count from the start.
-fn follow(transform: &CodeTransform, start: usize, old: i64) -> Option<i64> {
-    let offset = usize::try_from(old).ok()?;
-    let location = u32::try_from(offset.checked_sub(start)?).ok()?;
-    if location == u32::MAX {
-        return None;
-    }
-    let new = transform.get(InstrLocId::new(location))?;
-    i64::try_from(new).ok()
+// A module as it is written, where its operators went, and where its code began in the file that was read.
+#[derive(Drop)]
+struct Written {
+    bytes: Vec<u8>,
+    transform: CodeTransform,
+    start: usize,
 }
 
-// The segments whose operators are still there, by where they are.
-fn moved(
-    alloc: Global,
-    transform: &CodeTransform,
-    start: usize,
-    segments: &[Segment],
-) -> Result<Vec<Segment>> {
-    let mut kept: Vec<Segment> = Vec::new(alloc);
-    for segment in segments {
-        if let Some(new) = follow(transform, start, segment.fields[0]) {
-            let mut segment = *segment;
-            segment.fields[0] = new;
-            kept.push(segment)?;
-        }
-    }
-    kept.sort_by_key(|segment| segment.fields[0])?;
-    Ok(kept)
-}
-
-// The text of a source map whose mappings follow. The rest of the text stays as it is, since some readers want the fields in one order.
-fn follow_map(
-    alloc: Global,
-    transform: &CodeTransform,
-    start: usize,
-    map: &[u8],
-) -> std::result::Result<String, Failure> {
-    let Ok(text) = std::str::from_utf8(map) else {
-        return Err(Failure::Wrong("the map is no text"));
-    };
-    let Ok(json) = Value::from_str(alloc, text) else {
-        return Err(Failure::Wrong("the map is no JSON"));
-    };
-    let Some(value) = json.get("mappings") else {
+// The mappings of a source map.
+fn mappings_in(map: &Value) -> std::result::Result<&str, Failure> {
+    let Some(value) = map.get("mappings") else {
         return Err(Failure::Wrong("the map has no mappings"));
     };
-    let Some(mappings) = value.as_str() else {
-        return Err(Failure::Wrong("the mappings are no text"));
-    };
+    match value.as_str() {
+        Some(mappings) => Ok(mappings),
+        None => Err(Failure::Wrong("the mappings are no text")),
+    }
+}
+
+// The new mappings of a source map.
+fn new_mappings(
+    alloc: Global,
+    written: &Written,
+    mappings: &str,
+) -> std::result::Result<String, Failure> {
     let Some(segments) = decode(alloc, mappings)? else {
         return Err(Failure::Wrong("the mappings are malformed"));
     };
-    let segments = moved(alloc, transform, start, segments.as_slice())?;
-    let new = encode(alloc, segments.as_slice())?;
+    let segments = segments.as_slice();
+    Ok(followed(alloc, &written.transform, written.start, segments)?)
+}
+
+// The text with the new mappings. The rest stays as it is, since some readers want the fields in one order.
+fn replaced(
+    alloc: Global,
+    text: &str,
+    mappings: &str,
+    new: &str,
+) -> std::result::Result<String, Failure> {
     let old = format!(in alloc; "\"{mappings}\"")?;
     match text.split_once(old.as_str()) {
         Some((before, after)) => Ok(format!(in alloc; "{before}\"{new}\"{after}")?),
@@ -72,14 +57,83 @@ fn follow_map(
     }
 }
 
-fn print_pairs(rt: &HostRuntime, transform: &CodeTransform, start: usize) -> std::io::Result<()> {
-    let mut text = String::new(rt.alloc());
-    for (location, new) in transform.instruction_map.as_slice() {
-        let old = start.saturating_add(location.data() as usize);
-        let line = format!(in rt.alloc(); "{old} {new}\n")?;
+// The text of a source map whose mappings follow.
+fn follow_map(
+    alloc: Global,
+    written: &Written,
+    text: &str,
+) -> std::result::Result<String, Failure> {
+    let Ok(map) = Value::from_str(alloc, text) else {
+        return Err(Failure::Wrong("the map is no JSON"));
+    };
+    let mappings = mappings_in(&map)?;
+    let new = new_mappings(alloc, written, mappings)?;
+    replaced(alloc, text, mappings, new.as_str())
+}
+
+// Lets the source map in a file follow, into another.
+fn write_map(
+    rt: &HostRuntime,
+    written: &Written,
+    map: &str,
+    to: &str,
+) -> std::result::Result<(), Failure> {
+    let bytes = read_file(rt, map)?;
+    let Ok(text) = std::str::from_utf8(bytes.as_slice()) else {
+        return Err(Failure::Wrong("the map is no text"));
+    };
+    let new = follow_map(rt.alloc(), written, text)?;
+    write_file(rt, to, new.as_bytes())
+}
+
+// The pairs of offsets, a line each.
+fn pairs(alloc: Global, written: &Written) -> Result<String, AllocError> {
+    let mut text = String::new(alloc);
+    for (location, new) in written.transform.instruction_map.as_slice() {
+        let old = written.start.saturating_add(location.data() as usize);
+        let line = format!(in alloc; "{old} {new}\n")?;
         text.push_str(line.as_str())?;
     }
-    rt.write_all(text.as_bytes())
+    Ok(text)
+}
+
+fn print_pairs(rt: &HostRuntime, written: &Written) -> std::result::Result<(), Failure> {
+    let text = pairs(rt.alloc(), written)?;
+    rt.write_all(text.as_bytes())?;
+    Ok(())
+}
+
+// The flags under which operators can be followed.
+fn config() -> ModuleConfig {
+    let mut config = ModuleConfig::new();
+    config.preserve_code_transform = true;
+    config
+}
+
+// A module as it is written, with where its code was read.
+fn write(alloc: Global, module: &mut Module, start: usize) -> Result<Written> {
+    let (bytes, transform) = module.emit_wasm_with_transform(alloc)?;
+    Ok(Written {
+        bytes,
+        transform,
+        start,
+    })
+}
+
+// The module that these bytes spell, as it is written.
+fn written_of(alloc: Global, bytes: &[u8]) -> Result<Written> {
+    let start = code_section_start(bytes).unwrap_or(0);
+    let mut module: Module = Module::from_buffer_with_config(alloc, bytes, &config())?;
+    write(alloc, &mut module, start)
+}
+
+// Tells where the operators went.
+fn tell(rt: &HostRuntime, written: &Written, maps: &[String]) -> std::result::Result<(), Failure> {
+    match maps {
+        [] => print_pairs(rt, written),
+        [map, new] => write_map(rt, written, map.as_str(), new.as_str()),
+        _ => Err(Failure::Words(USAGE)),
+    }
 }
 
 /// Does what the words say.
@@ -88,23 +142,7 @@ pub fn run(rt: &HostRuntime, words: &[String]) -> std::result::Result<(), Failur
         return Err(Failure::Words(USAGE));
     };
     let bytes = read_file(rt, from.as_str())?;
-    let mut config = ModuleConfig::new();
-    config.preserve_code_transform = true;
-    let mut module: Module = Module::from_buffer_with_config(
-        rt.alloc(),
-        bytes.as_slice(),
-        &config,
-    )?;
-    let (written, transform) = module.emit_wasm_with_transform(rt.alloc())?;
-    let start = code_section_start(bytes.as_slice()).unwrap_or(0);
-    match maps {
-        [] => print_pairs(rt, &transform, start)?,
-        [map, new] => {
-            let map = read_file(rt, map.as_str())?;
-            let text = follow_map(rt.alloc(), &transform, start, map.as_slice())?;
-            write_file(rt, new.as_str(), text.as_bytes())?;
-        }
-        _ => return Err(Failure::Words(USAGE)),
-    }
-    write_file(rt, to.as_str(), written.as_slice())
+    let written = written_of(rt.alloc(), bytes.as_slice())?;
+    tell(rt, &written, maps)?;
+    write_file(rt, to.as_str(), written.bytes.as_slice())
 }

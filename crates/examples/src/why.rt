@@ -4,27 +4,28 @@
 use crate::functions::find;
 use crate::reached::{MOST, Reached, reach};
 use program_parts::{Failure, read_file};
-use std::alloc::Global;
+use std::alloc::{AllocError, Global};
+use std::io;
 use walrus::ir::ExportId;
 use walrus::passes::{Item, Reason};
-use walrus::{FromBuffer, Labels, Module, Result, Space};
+use walrus::{FromBuffer, Labels, Module, ModuleExports, Result, Space};
 
 const USAGE: &str =
     "examples why IN FUNCTION, or IN table|memory|global|tag|element|data|type NUMBER";
 
 // What is said of what an export gives out.
-fn export_text(alloc: Global, module: &Module, id: ExportId) -> Result<String> {
-    if !module.exports.contains(id) {
-        return Ok(String::from_str(alloc, "export")?);
+fn export_text(alloc: Global, exports: &ModuleExports, id: ExportId) -> Result<String, AllocError> {
+    if !exports.contains(id) {
+        return String::from_str(alloc, "export");
     }
-    let export = module.exports.get(id);
-    Ok(format!(in alloc; "export {}", export.name)?)
+    let name = exports.get(id).name.as_str();
+    format!(in alloc; "export {name}")
 }
 
 // What is said of a root.
-fn reason_text(alloc: Global, module: &Module, why: Reason) -> Result<String> {
+fn reason_text(alloc: Global, exports: &ModuleExports, why: Reason) -> Result<String, AllocError> {
     let text = match why {
-        Reason::Exported(id) => return export_text(alloc, module, id),
+        Reason::Exported(id) => return export_text(alloc, exports, id),
         Reason::Starts => "start",
         Reason::IsCopied => "active data",
         Reason::FillsImport => "active in an imported table",
@@ -32,35 +33,35 @@ fn reason_text(alloc: Global, module: &Module, why: Reason) -> Result<String> {
         Reason::IsDeclared => "declared",
         Reason::IsPushed => "pushed by a custom section",
     };
-    Ok(String::from_str(alloc, text)?)
+    String::from_str(alloc, text)
 }
 
 // The line of an item.
-fn line_of(alloc: Global, module: &Module, item: Item) -> Result<String> {
+fn line_of(alloc: Global, module: &Module, item: Item) -> Result<String, AllocError> {
     let label = module.label(alloc, item)?;
-    Ok(format!(in alloc; "  {} {label}", item.space)?)
+    format!(in alloc; "  {} {label}", item.space)
 }
 
-// The chain that ends with the step of this position, the root first.
-fn print_chain(
-    rt: &HostRuntime,
-    module: &Module,
-    reached: &Reached,
-    at: usize,
-) -> std::result::Result<(), Failure> {
-    let mut lines = Vec::new(rt.alloc());
+// The lines of the chain that ends with the step of this position, the root last.
+fn chain(alloc: Global, module: &Module, reached: &Reached, at: usize) -> Result<Vec<String>> {
+    let mut lines = Vec::new(alloc);
     let mut next = at;
     for _ in 0..MOST {
         let Some(step) = reached.steps.get(next) else {
             break;
         };
-        lines.push(line_of(rt.alloc(), module, step.item)?)?;
+        lines.push(line_of(alloc, module, step.item)?)?;
         if let Some(why) = step.root {
-            println!(rt; "{}", reason_text(rt.alloc(), module, why)?)?;
+            lines.push(reason_text(alloc, &module.exports, why)?)?;
             break;
         }
         next = step.by;
     }
+    Ok(lines)
+}
+
+// Prints the lines, the last first.
+fn print_lines(rt: &HostRuntime, lines: &[String]) -> io::Result<()> {
     for line in lines.iter().rev() {
         println!(rt; "{line}")?;
     }
@@ -80,19 +81,62 @@ fn space_of(word: &str) -> Option<Space> {
     }
 }
 
+// The item of this number in the space that the word names.
+fn numbered(space: &str, number: &str) -> std::result::Result<Item, Failure> {
+    match (space_of(space), number.parse::<u32>()) {
+        (Some(space), Ok(id)) => Ok(Item { space, id }),
+        _ => Err(Failure::Words(USAGE)),
+    }
+}
+
+// The function that a word names.
+fn function_of(module: &Module, word: &String) -> std::result::Result<Item, Failure> {
+    match find(module, word.as_str()) {
+        Some(id) => Ok(Item::new(Space::Function, id)),
+        None => Err(Failure::Unknown(word.clone()?)),
+    }
+}
+
 // The item that the words name.
 fn item_of(module: &Module, words: &[String]) -> std::result::Result<Item, Failure> {
     match words {
-        [name] => match find(module, name.as_str()) {
-            Some(id) => Ok(Item::new(Space::Function, id)),
-            None => Err(Failure::Unknown(name.clone()?)),
-        },
-        [space, number] => match (space_of(space.as_str()), number.parse::<u32>()) {
-            (Some(space), Ok(id)) => Ok(Item { space, id }),
-            _ => Err(Failure::Words(USAGE)),
-        },
+        [name] => function_of(module, name),
+        [space, number] => numbered(space.as_str(), number.as_str()),
         _ => Err(Failure::Words(USAGE)),
     }
+}
+
+// The lines that tell why an item is kept, the last first.
+fn reasons(alloc: Global, module: &Module, item: Item) -> Result<Vec<String>> {
+    let reached = reach(alloc, module)?;
+    match reached.position(item) {
+        Some(at) => chain(alloc, module, &reached, at),
+        None => {
+            let mut lines = Vec::new(alloc);
+            lines.push(String::from_str(alloc, "nothing keeps it")?)?;
+            Ok(lines)
+        }
+    }
+}
+
+// The same of the item that the words name.
+fn reasons_of(
+    alloc: Global,
+    module: &Module,
+    words: &[String],
+) -> std::result::Result<Vec<String>, Failure> {
+    let item = item_of(module, words)?;
+    Ok(reasons(alloc, module, item)?)
+}
+
+// The same of the module that these bytes spell.
+fn reasons_in(
+    alloc: Global,
+    bytes: &[u8],
+    words: &[String],
+) -> std::result::Result<Vec<String>, Failure> {
+    let module: Module = Module::from_buffer(alloc, bytes)?;
+    reasons_of(alloc, &module, words)
 }
 
 /// Does what the words say.
@@ -101,14 +145,6 @@ pub fn run(rt: &HostRuntime, words: &[String]) -> std::result::Result<(), Failur
         return Err(Failure::Words(USAGE));
     };
     let bytes = read_file(rt, from.as_str())?;
-    let module: Module = Module::from_buffer(rt.alloc(), bytes.as_slice())?;
-    let item = item_of(&module, rest)?;
-    let reached = reach(rt.alloc(), &module)?;
-    match reached.position(item) {
-        Some(at) => print_chain(rt, &module, &reached, at),
-        None => {
-            println!(rt; "nothing keeps it")?;
-            Ok(())
-        }
-    }
+    let lines = reasons_in(rt.alloc(), bytes.as_slice(), rest)?;
+    Ok(print_lines(rt, lines.as_slice())?)
 }

@@ -15,7 +15,7 @@ pub use walrus_emit::{Emit, EmitContext, EmitWasm};
 pub use walrus_errors::{ErrorKind, Form, Limited, ModuleError, Result, Space};
 pub use walrus_index_maps::{IdsToIndices, IndicesToIds};
 pub use walrus_ir as ir;
-pub use walrus_lookups::{ByName, DeleteNamed, Finds, Labels, Places, code_section_start};
+pub use walrus_lookups::{ByName, Finds, Labels, Places, Retains, code_section_start};
 pub use walrus_module::Module;
 pub use walrus_module_items::{
     Data, DataKind, Element, ElementItems, ElementKind, Export, ExportItem, FuncParams,

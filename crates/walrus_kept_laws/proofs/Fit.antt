@@ -1,11 +1,10 @@
 -- Lemmas: the operators of a file that stand in the sequences of its bodies' normal forms have spellings.
-use Rattle.std.specs.Prelude.{ℕ, suc, ◌≡◌, ◌<◌, All, List, [], ◌∷◌, drop, length, map, Option, Some, None}
+use Rattle.std.specs.Prelude.{ℕ, suc, ◌≡◌, List, [], ◌∷◌, drop, length, Option, Some, None}
 use Rattle.std.specs.List.{filter_map}
 use Rattle.std.proofs.Common.{arith, subst}
 use Rattle.wasm_features.specs.declared.WasmFeatures.{WasmFeatures}
 use Rattle.wasm_formats.specs.Formats.{Small}
 use Rattle.wasm_operators.specs.declared.block_type.BlockType.{BlockType}
-use Rattle.wasm_grammar.specs.Modules as grammar
 use Rattle.wasm_grammar.specs.Modules.{Origin, Imported, Own, Body, Function, Module}
 use Rattle.wasm_grammar.specs.States.{Chunk, State}
 use Rattle.wasm_sections.specs.Within.{BodiesFit, ChunksFit, bodies_inside}

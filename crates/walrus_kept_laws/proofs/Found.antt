@@ -10,7 +10,7 @@ use Rattle.walrus_forms.specs.Renaming.{renamed_kind}
 use Rattle.walrus_forms.specs.Same.{SameKindIsEquality, same_kind}
 use Rattle.walrus_forms.proofs.RenamingLemmas.{In, kinds-agree}
 use Rattle.walrus_types.specs.Items.{Item}
-use Rattle.walrus_types.specs.Table.{Table, found_type, latest_id, type_at}
+use Rattle.walrus_types.specs.Table.{Table, found_type, type_at}
 use Rattle.walrus_types.specs.TypeLaws.{FindsLatest, IsLatest}
 use Rattle.wasm_body_grammar.specs.Rules.{found_in, latest_from, leads, serves}
 use Rattle.wasm_merged_modules.specs.Merged.{AreNew}
@@ -89,7 +89,7 @@ none_past (x ∷ xs) zero k le e = omega (arith, le)
 none_past (x ∷ xs) (suc n) k le e = none_past xs n k (omega (arith, le)) e
 
 -- none is one that stands before it
-new_apart : (there kinds : List Kind) → AreNew there kinds → (i j : ℕ) (kind : Kind) → i < j → length there ≤ j → slice_get (there ++ kinds) i ≡ Some kind → slice_get (there ++ kinds) j ≡ Some kind → ⊥
+pub new_apart : (there kinds : List Kind) → AreNew there kinds → (i j : ℕ) (kind : Kind) → i < j → length there ≤ j → slice_get (there ++ kinds) i ≡ Some kind → slice_get (there ++ kinds) j ≡ Some kind → ⊥
 new_apart there [] new i j kind lt le at_i at_j = none_past (there ++ []) j kind (let many = length-append there [] in omega (arith, le, many)) at_j
 new_apart there (k ∷ kinds) new i j kind lt le at_i at_j = elim (cases_lt (length there) j) as (λ _. ⊥) [
   | inl past ↦ (

@@ -1,21 +1,19 @@
 -- Lemmas: what a function names, by ids and by places.
-use Rattle.std.specs.Prelude.{ℕ, zero, suc, ◌≡◌, ◌⊎◌, ◌<◌, Bool, true, List, [], ◌∷◌, ◌++◌, map, Contains, Option, Some, None, slice_get, slice_index_or, refl}
+use Rattle.std.specs.Prelude.{ℕ, ◌≡◌, List, [], ◌∷◌, ◌++◌, map, Option, refl}
 use Rattle.std.specs.List.{flat_map}
 use Rattle.std.proofs.Common.{ap, sym, ◌∙◌, subst, inl, inr}
-use Rattle.std.proofs.lemmas.Option.{none-some, same_Some}
 use Rattle.walrus_forms.specs.declared.value.ValType.{ValType}
-use Rattle.wasm_formats.specs.declared.fault.Space.TheVariants as spaces
 use Rattle.wasm_operators.specs.declared.block_type.BlockType.{BlockType}
 use Rattle.wasm_operators.specs.declared.block_type.BlockType.TheVariants as blocks
-use Rattle.wasm_operators.specs.Items.{Space, Types, Functions, Tables, Memories, Tags, Globals, ElementSegments, DataSegments, Locals, Labels, Item as Immediate, Block}
+use Rattle.wasm_operators.specs.Items.{Space, Types, Functions, Tables, Memories, Tags, Globals, ElementSegments, DataSegments, Locals, Labels, Item as Immediate}
 use Rattle.wasm_operators.specs.NameLaws.{NamesAreRenamed, renamed_name, same}
 use Rattle.wasm_operators.specs.Names.{Name, Renaming, block_names, item_names, operator_names, renamed_operator}
 use Rattle.wasm_operators.specs.Operators.{Seen}
 use Rattle.wasm_grammar.specs.Modules.{Item, Placed}
-use Rattle.wasm_references.specs.References.{body_items, item, local_items, name_items, names_items}
+use Rattle.wasm_references.specs.References.{body_items, local_items, name_items, names_items}
 use Rattle.wasm_ruled_renamed.specs.Bodies.{with_numbers}
 use Rattle.wasm_ruled_renamed.specs.Renamed.{renamed_placed}
-use Rattle.walrus_pass_laws.proofs.Sets.{In, in_cases, in_flat, in_left, in_map, in_right, flat_in, map_in}
+use Rattle.walrus_pass_laws.proofs.Sets.{In, in_cases, in_flat, in_left, in_map, in_right, flat_in}
 use Rattle.walrus_kept_laws.specs.Alike.{StandsFor}
 use Rattle.walrus_kept_laws.proofs.Handled.{BlocksAlike}
 use Rattle.walrus_kept_laws.proofs.Parts.{Back, Forth, IsOpened, is_opened, its_own, stands_for}
@@ -56,7 +54,7 @@ module _ (named : NamesAreRenamed) (vl wl : ℕ → Option ValType) (number : �
       ap (λ (l : List Item). l ++ names_items vl names) (name_same x.0 x.1 (λ e. h x.1 (inl (let p : ◌≡◌ {A = Name} x (Locals, x.1) = λ i. (e i, x.1) in p))))
       ∙ ap (λ (l : List Item). name_items wl x.0 (r x.0 x.1) ++ l) (names_same names (λ n i. h n (inr i)))
 
-  ops_same : (ops : List Placed) → ((n : ℕ) → In (flat_map (λ (o : Placed). operator_names o.op) ops) (Locals, n) → wl (number n) ≡ vl n)
+  pub ops_same : (ops : List Placed) → ((n : ℕ) → In (flat_map (λ (o : Placed). operator_names o.op) ops) (Locals, n) → wl (number n) ≡ vl n)
       → flat_map (λ (o : Placed). names_items vl (operator_names o.op)) ops ≡ flat_map (λ (o : Placed). names_items wl (operator_names o.op)) (map (renamed_placed r) ops)
   ops_same [] h = refl
   ops_same (o ∷ ops) h =

@@ -1,33 +1,26 @@
 -- Lemmas: the block types of handlers, in memory and by places.
-use Rattle.std.specs.Prelude.{ℕ, zero, suc, ◌≡◌, ◌⊎◌, ◌<◌, Bool, true, false, List, [], ◌∷◌, ◌++◌, map, filter_map, Option, Some, None, Ok, slice_get, slice_index_or, refl}
-use Rattle.std.specs.List.{flat_map}
-use Rattle.std.specs.Option.{option_and_then, option_map, option_to_list, unwrap_or}
-use Rattle.std.proofs.Common.{ap, sym, ◌∙◌, subst, inl, inr}
+use Rattle.std.specs.Prelude.{ℕ, ◌≡◌, Bool, List, [], ◌∷◌, Option, Some, None, slice_get, refl}
+use Rattle.std.specs.Option.{option_map}
+use Rattle.std.proofs.Common.{ap, subst, inl, inr}
 use Rattle.std.proofs.lemmas.Option.{none-some, same_Some}
-use Rattle.walrus_forms.specs.declared.value.AbstractHeapType.{AbstractHeapType}
-use Rattle.walrus_forms.specs.declared.value.AbstractHeapType.TheVariants as kinds
 use Rattle.walrus_forms.specs.declared.value.HeapType.{HeapType}
 use Rattle.walrus_forms.specs.declared.value.HeapType.TheVariants as heaps
-use Rattle.walrus_forms.specs.declared.value.RefType.{RefType}
 use Rattle.walrus_forms.specs.declared.value.ValType.{ValType}
 use Rattle.walrus_forms.specs.declared.value.ValType.TheVariants as values
-use Rattle.walrus_forms.specs.Forms.{Form, FunctionForm, StructForm, ArrayForm, params_of}
-use Rattle.walrus_forms.specs.Kinds.{Kind, function_kind, kind_names}
-use Rattle.walrus_types.specs.Items.{Item as TypeItem}
-use Rattle.walrus_types.specs.Table.{Table as TypeTable, found_type, type_at}
-use Rattle.walrus_instr.specs.BlockTypes.{picked, short_form}
+use Rattle.walrus_types.specs.Table.{Table as TypeTable, found_type}
+use Rattle.walrus_instr.specs.BlockTypes.{picked}
 use Rattle.walrus_instr.specs.declared.seq.InstrSeqType.{InstrSeqType}
 use Rattle.walrus_instr.specs.declared.seq.InstrSeqType.TheVariants.{Simple, MultiValue}
 use Rattle.wasm_formats.specs.declared.fault.Space.TheVariants as spaces
 use Rattle.wasm_operators.specs.declared.block_type.BlockType.{BlockType}
 use Rattle.wasm_operators.specs.declared.block_type.BlockType.TheVariants as blocks
-use Rattle.wasm_operators.specs.Names.{Name, block_names}
+use Rattle.wasm_operators.specs.Names.{block_names}
 use Rattle.wasm_grammar.specs.Modules.{Item}
 use Rattle.wasm_grammar.specs.TypeWords.{value_from}
 use Rattle.wasm_references.specs.References.{item, names_items, value_items}
 use Rattle.wasm_body_grammar.specs.Rules.{Around, found_in, pick}
 use Rattle.wasm_grammar.specs.States.{types_of}
-use Rattle.walrus_meaning.specs.Words.{own_block, own_heap, own_value}
+use Rattle.walrus_meaning.specs.Words.{own_block}
 use Rattle.walrus_pass_laws.proofs.Sets.{In}
 use Rattle.walrus_kept_laws.specs.Alike.{StandsFor}
 

@@ -1,7 +1,6 @@
 -- Lemmas: a plan that lists what was left has what is kept.
-use Rattle.std.specs.Prelude.{ℕ, zero, suc, ◌≡◌, ◌⊎◌, ◌↔◌, Bool, List, [], ◌∷◌, Contains, map, Option, Some, None, IsSome, slice_get, slice_index_or, refl}
+use Rattle.std.specs.Prelude.{ℕ, ◌≡◌, ◌↔◌, Bool, List, [], ◌∷◌, Contains, Option, Some, None, IsSome, slice_get, slice_index_or, refl}
 use Rattle.std.specs.List.{AllByRecursion}
-use Rattle.std.specs.Option.{option_map}
 use Rattle.std.proofs.Common.{ap, sym, ◌∙◌, subst, inl, inr}
 use Rattle.std.proofs.lemmas.Option.{same_Some}
 use Rattle.wasm_formats.specs.declared.fault.Space.{Space as FileSpace}
@@ -15,7 +14,7 @@ use Rattle.wasm_part.specs.Kept.{AreFilled, HasKept, IsShared, ListsItems}
 use Rattle.wasm_part.specs.Part.{IsIn, Plan}
 use Rattle.walrus_arena.specs.Arena.{Arena, IsLive, item_at}
 use Rattle.walrus_types.specs.Items.{Item as TypeItem}
-use Rattle.walrus_types.specs.Table.{Table as TypeTable, type_at}
+use Rattle.walrus_types.specs.Table.{Table as TypeTable}
 use Rattle.walrus_roots.specs.declared.item.Item.{Item}
 use Rattle.walrus_roots.specs.Items.{item}
 use Rattle.walrus_roots.specs.Items as roots
@@ -30,7 +29,7 @@ use Rattle.walrus_refusals.specs.Sound.{IsSound}
 use Rattle.walrus_references.specs.Kept.{Kept}
 use Rattle.walrus_pass_laws.specs.Items.{own_item}
 use Rattle.walrus_parse_gc_laws.specs.Numbered.{numbered, numbered_function}
-use Rattle.walrus_kept_laws.specs.Alike.{KeptAlike, NumberStands, StandsFor}
+use Rattle.walrus_kept_laws.specs.Alike.{KeptAlike, NumberStands}
 use Rattle.walrus_kept_laws.specs.Kept.{ListsJust}
 use Rattle.walrus_kept_laws.specs.Left.{IsLeft, SlotsLeft, held_item}
 use Rattle.walrus_kept_laws.proofs.Left.{slot_is, slot_of}

@@ -1,17 +1,21 @@
 mod Left
 mod Stay
-mod Reach
+pub mod Reach
 mod Refs
 mod Low
 mod Walk
 mod Text
 mod Parts
 mod Found
-mod Types
+pub mod Types
 mod Handled
 mod Turns
 mod Fit
 mod Functions
 mod Locals
+mod Bare
+mod Context
+mod Sees
+mod Bodies
 mod Kept
 mod Planned

@@ -23,10 +23,9 @@ use Rattle.walrus_walks.specs.walrus_instr.walrus_items.declared.local.Local.{Lo
 use Rattle.walrus_meaning.specs.walrus_local_function.declared.local_function.LocalFunction.{LocalFunction}
 use Rattle.walrus_meaning.specs.Bodies.{depth_of, has_number, local_ids, named_locals, own_operators, used_locals}
 use Rattle.walrus_pass_laws.specs.Locals.{type_of_local}
-use Rattle.walrus_pass_laws.proofs.Sets.{In, in_cases, in_map, map_in, in_flat, flat_in, in_left, in_right}
-use Rattle.std.proofs.lemmas.Option.{none-some, same_Some}
+use Rattle.walrus_pass_laws.proofs.Sets.{In, in_map, map_in, in_flat, flat_in, in_left, in_right}
 use Rattle.walrus_kept_laws.proofs.Refs.{at_right}
-use Rattle.walrus_kept_laws.proofs.Types.{in_get, zip_join, zip_many}
+use Rattle.walrus_kept_laws.proofs.Types.{zip_join, zip_many}
 
 -- ---- the locals among the names of an operator
 
@@ -305,7 +304,7 @@ module _ (locals : List Local) (local : LocalFunction) where
           | inl f ↦ inl (ap (slice_get (x ∷ xs)) on ∙ f)
           | inr f ↦ inr (on ∙ ap suc f.0, λ h. elim h as (λ _. ⊥) [ inl e ↦ ne e | inr i ↦ f.1 i ])
         ]
-    )
+        )
   ]
 
   past_end : (ys : List ValType) → slice_get ys (length ys) ≡ None

@@ -1,7 +1,7 @@
 -- Lemmas: what is renamed names the images of types alone.
-use Rattle.std.specs.Prelude.{ℕ, zero, suc, ◌≡◌, ◌<◌, List, [], ◌∷◌, ◌++◌, map, Option, Some, None, refl}
+use Rattle.std.specs.Prelude.{ℕ, zero, suc, ◌≡◌, ◌<◌, List, [], ◌∷◌, ◌++◌, map, Option, Some, None}
 use Rattle.std.specs.List.{flat_map}
-use Rattle.std.specs.Option.{option_map, option_to_list}
+use Rattle.std.specs.Option.{option_map}
 use Rattle.std.proofs.Common.{ap, sym, ◌∙◌, subst, inl, inr}
 use Rattle.walrus_forms.specs.declared.value.HeapType.{HeapType}
 use Rattle.walrus_forms.specs.declared.value.HeapType.TheVariants.{Abstract, Shared, Concrete, Exact}
@@ -10,14 +10,13 @@ use Rattle.walrus_forms.specs.declared.value.ValType.{ValType}
 use Rattle.walrus_forms.specs.declared.value.ValType.TheVariants.{I32, I64, F32, F64, V128, Ref}
 use Rattle.walrus_forms.specs.Kinds.{Kind, kind_names}
 use Rattle.walrus_forms.specs.Renaming.{renamed_kind, renamed_ref, renamed_value}
-use Rattle.walrus_forms.specs.Values.{ref_name, value_name}
 use Rattle.walrus_forms.proofs.RenamingLemmas.{kinds-names}
 use Rattle.wasm_formats.specs.declared.fault.Space.TheVariants as spaces
 use Rattle.wasm_operators.specs.Items.{Space, Types, Functions, Tables, Memories, Tags, Globals, ElementSegments, DataSegments, Locals, Labels}
 use Rattle.wasm_operators.specs.NameLaws.{NamesAreRenamed, renamed_name}
 use Rattle.wasm_operators.specs.Names.{Name, Renaming, operator_names, renamed_operator}
 use Rattle.wasm_operators.specs.Operators.{Seen}
-use Rattle.wasm_grammar.specs.Modules.{Item, Expr, Origin, Imported, Own, Placed, Table, Global, Tag, Mode, Passive, Declared, Active, Elements, Functions as Listed, Expressions, Element, Segment}
+use Rattle.wasm_grammar.specs.Modules.{Item, Expr, Origin, Imported, Own, Table, Global, Tag, Mode, Passive, Declared, Active, Elements, Functions as Listed, Expressions, Element, Segment}
 use Rattle.wasm_formats.specs.declared.fault.Space.{Space as FileSpace}
 use Rattle.wasm_references.specs.References.{element_items, expr_items, global_items, held_items, init_items, item, mode_items, name_items, named_by, names_items, no_locals, origin_items, ref_items, segment_items, slot, table_items, tag_items, value_items}
 use Rattle.wasm_normal_modules.specs.Modules.{by_types, retyped_element, retyped_expr, retyped_global, retyped_items, retyped_mode, retyped_origin, retyped_segment, retyped_table, retyped_tag}

@@ -1,5 +1,5 @@
 -- Lemmas: the block types of the parts of a body that no operator has, in memory and over its tree.
-use Rattle.std.specs.Prelude.{ℕ, ◌<◌, ◌≡◌, ◌⊎◌, ◌==◌, Bool, List, [], ◌∷◌, ◌++◌, drop, map, Option, Some, None, slice_get, refl}
+use Rattle.std.specs.Prelude.{ℕ, ◌≡◌, ◌⊎◌, Bool, List, [], ◌∷◌, ◌++◌, drop, map, Option, Some, slice_get, refl}
 use Rattle.std.specs.List.{flat_map}
 use Rattle.std.proofs.Common.{ap, sym, subst, ◌∙◌, inl, inr}
 use Rattle.std.proofs.lemmas.List.{append_assoc}
@@ -18,9 +18,8 @@ use Rattle.walrus_instr.specs.declared.seq.InstrSeq.{InstrSeq}
 use Rattle.walrus_instr.specs.declared.seq.InstrSeqType.{InstrSeqType}
 use Rattle.walrus_builder.specs.Built.{Seq, seq_of}
 use Rattle.walrus_walks.specs.Tree.{IsRank, children, children_in}
-use Rattle.walrus_tree.specs.Text.{Piece, Operator}
+use Rattle.walrus_tree.specs.Text.{Operator}
 use Rattle.walrus_tree.specs.TextLaws.{TextIsPlain}
-use Rattle.walrus_pairing.specs.Laws.{OperatorComesBack}
 use Rattle.walrus_body_nesting.specs.declared.frames.Opener.{Opener}
 use Rattle.walrus_body_nesting.specs.declared.frames.Opener.TheVariants as openers
 use Rattle.walrus_body_nesting.specs.Opens.{Makes}
@@ -34,7 +33,7 @@ use Rattle.walrus_meaning.specs.Bodies.{block_of, depth_of, own_clause, own_inst
 use Rattle.walrus_meaning.specs.Words.{own_block}
 use Rattle.walrus_pass_laws.specs.Instrs.{part_types}
 use Rattle.walrus_pass_laws.proofs.Sets.{In, in_cases, in_left, in_right}
-use Rattle.walrus_kept_laws.proofs.Text.{AllRanked, Line, block_text, first_piece, first_text, held, none_text, ranked_split, rest, seen_at, seq_text, some_seq, turn_piece}
+use Rattle.walrus_kept_laws.proofs.Text.{AllRanked, Line, block_text, first_piece, first_text, held, none_text, ranked_split, rest, seen_at, seq_text, turn_piece}
 use Rattle.walrus_kept_laws.proofs.Walk.{tree_parts, turn_part}
 
 -- an operator that opens a block of this type

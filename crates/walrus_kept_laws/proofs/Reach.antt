@@ -1,5 +1,5 @@
 -- Lemmas: where references stand for one another, what they reach does.
-use Rattle.std.specs.Prelude.{ℕ, ◌≡◌, ◌⊎◌, ◌↔◌, ◌<◌, Bool, List, Option, Some, IsSome, slice_get, refl}
+use Rattle.std.specs.Prelude.{ℕ, ◌≡◌, Bool, List, Option, Some, IsSome, slice_get, refl}
 use Rattle.std.proofs.Common.{sym, ◌∙◌, subst, inl, inr}
 use Rattle.std.proofs.lemmas.Option.{same_Some}
 use Rattle.wasm_formats.specs.declared.fault.Space.{Space}

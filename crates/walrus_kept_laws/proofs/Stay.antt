@@ -1,6 +1,5 @@
 -- Lemmas: a plan that lists what is left of a module writes the same of both.
 use Rattle.std.specs.Prelude.{ℕ, zero, suc, ◌≡◌, List, [], ◌∷◌, Option, Some, None, IsSome, slice_get, slice_index_or, refl}
-use Rattle.std.specs.List.{AllByRecursion}
 use Rattle.std.proofs.Common.{ap, sym, ◌∙◌, subst}
 use Rattle.std.proofs.lemmas.Option.{none-some, same_Some}
 use Rattle.wasm_grammar.specs.Modules as grammar
@@ -8,7 +7,6 @@ use Rattle.wasm_operators.specs.Items.{Functions, Tables, Memories, Tags, Global
 use Rattle.wasm_part.specs.Agree.{AgreeOn, PartsAgree, SlotsAgree}
 use Rattle.wasm_part.specs.Kept.{AreFilled, ListsItems}
 use Rattle.wasm_part.specs.Part.{Plan}
-use Rattle.walrus_module.specs.Parts.{Module}
 use Rattle.walrus_parse_gc_laws.specs.Numbered.{numbered, numbered_function}
 use Rattle.walrus_roots.specs.declared.item.Item.{Item}
 use Rattle.walrus_kept_laws.specs.Left.{IsLeft, SlotsLeft}

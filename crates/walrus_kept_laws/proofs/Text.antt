@@ -1,5 +1,5 @@
 -- Lemmas: the text of sequences that lie as a tree of operators, piece by piece.
-use Rattle.std.specs.Prelude.{ℕ, zero, suc, ◌<◌, ◌≡◌, Bool, List, [], ◌∷◌, ◌++◌, map, Option, Some, None, slice_get, refl}
+use Rattle.std.specs.Prelude.{ℕ, zero, suc, ◌<◌, ◌≡◌, List, [], ◌∷◌, ◌++◌, map, Option, Some, slice_get, refl}
 use Rattle.std.proofs.Common.{ap, sym, subst, ◌∙◌}
 use Rattle.std.proofs.lemmas.List.{append_assoc}
 use Rattle.walrus_instr.specs.declared.instr.Instr.{Instr}

@@ -1,10 +1,10 @@
 -- Lemmas: what blocks and their handlers are given, in memory and by places.
-use Rattle.std.specs.Prelude.{ℕ, zero, suc, ◌≡◌, ◌⊎◌, ◌<◌, Bool, true, false, List, [], ◌∷◌, ◌++◌, map, filter_map, Option, Some, None, MatchOption, Result, Ok, Err, slice_get, slice_index_or, refl, if◌then◌else◌}
+use Rattle.std.specs.Prelude.{ℕ, ◌≡◌, ◌⊎◌, ◌<◌, Bool, true, false, List, [], ◌∷◌, ◌++◌, map, filter_map, Option, Some, None, MatchOption, Result, Ok, Err, slice_get, slice_index_or, refl, if◌then◌else◌}
 use Rattle.std.specs.List.{cons_option}
 use Rattle.std.specs.Option.{ok_or, option_and_then, option_map, option_to_list, unwrap_or}
 use Rattle.std.proofs.Common.{ap, sym, ◌∙◌, subst, inl, inr}
 use Rattle.std.proofs.lemmas.Option.{none-some, same_Some}
-use Rattle.walrus_arena.specs.Arena.{Arena, item_at}
+use Rattle.walrus_arena.specs.Arena.{Arena}
 use Rattle.walrus_forms.specs.declared.value.AbstractHeapType.{AbstractHeapType}
 use Rattle.walrus_forms.specs.declared.value.AbstractHeapType.TheVariants as into
 use Rattle.walrus_forms.specs.declared.value.HeapType.{HeapType}
@@ -36,7 +36,6 @@ use Rattle.wasm_ref_types.specs.declared.value.ValType.TheVariants as reads
 use Rattle.wasm_operators.specs.declared.block_type.BlockType.{BlockType}
 use Rattle.wasm_operators.specs.declared.block_type.BlockType.TheVariants as blocks
 use Rattle.wasm_operators.specs.declared.entry.Flow.{Flow}
-use Rattle.wasm_operators.specs.declared.entry.Flow.TheVariants as flows
 use Rattle.wasm_operators.specs.Items.{Types, Tags, Item, Names, Block}
 use Rattle.wasm_operators.specs.Names.{Renaming, renamed_block, renamed_heap, renamed_item, renamed_operator, renamed_value}
 use Rattle.wasm_operators.specs.Operators.{Seen, flow_of}
@@ -45,7 +44,7 @@ use Rattle.wasm_grammar.specs.States.{types_of}
 use Rattle.wasm_grammar.specs.TypeWords.{abstract_of, heap_of, value_of}
 use Rattle.wasm_body_grammar.specs.Rules.{Around, found_in, pick}
 use Rattle.walrus_module_items.specs.declared.tag.Tag.{Tag}
-use Rattle.wasm_references.specs.References.{item, value_items}
+use Rattle.wasm_references.specs.References.{item}
 use Rattle.wasm_part.specs.Seen.{form_results, given_to, handled, kind_params, kind_results, opened_with, results_of as results_there, tag_params as params_there}
 use Rattle.walrus_pairing.specs.declared.error.PairError.{PairError}
 use Rattle.walrus_pairing.specs.declared.error.PairError.TheVariants.{Unknown as unknown}

@@ -1,6 +1,6 @@
 -- Lemmas: the parts of a body that no operator has, over its tree.
 use Rattle.std.specs.Prelude.{ℕ, ◌≡◌, List, [], ◌∷◌, ◌++◌, drop, map, Option, Some, None, refl}
-use Rattle.std.proofs.Common.{ap, sym, ◌∙◌, subst}
+use Rattle.std.proofs.Common.{ap, sym, ◌∙◌}
 use Rattle.std.proofs.lemmas.List.{append-nil, append_assoc, map-append}
 use Rattle.wasm_operators.specs.declared.block_type.BlockType.{BlockType}
 use Rattle.wasm_operators.specs.declared.entry.Flow.{Flow}
@@ -9,7 +9,7 @@ use Rattle.wasm_operators.specs.Items.{Item}
 use Rattle.wasm_operators.specs.Operators.{Seen, flow_of}
 use Rattle.wasm_body_grammar.specs.Rules.{Around}
 use Rattle.wasm_grammar.specs.Modules as grammar
-use Rattle.wasm_normal_form.specs.Roles.{Placed, Passes, Runs, Opens, Turns, Ends, role, role_in}
+use Rattle.wasm_normal_form.specs.Roles.{Placed, Passes, Runs, Opens, Turns, Ends, role_in}
 use Rattle.wasm_normal_form.specs.Trees.{Tree, Close, Arm, Skip, Run, Nest, IsShaped, flat}
 use Rattle.wasm_part.specs.Seen.{given_to, handled, innermost, opened_with, parts_in, parts_with}
 

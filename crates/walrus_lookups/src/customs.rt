@@ -1,22 +1,24 @@
 //! Custom sections by name.
 ghost use Rattle.std.specs.Prelude.{◌≡◌, ◌≤◌, ◌<◌, ◌^◌, ℕ};
+ghost use Rattle.std.specs.Fn.{FnReturnsAt};
 ghost use Rattle.walrus_arena.specs.Arena.{IsLive, item_at, next_id};
-ghost use Rattle.walrus_lookups.specs.Customs.{is_called, unnamed};
+ghost use Rattle.walrus_lookups.specs.Customs.{IsRetained, Stays};
 
 use walrus_arena::UntypedCustomSectionId;
 use walrus_sections::{CustomSection, Sections};
 
-// Whether the section of this id lives and has the name.
-fn is_called<B: CustomSection>(
+// Whether the section of this id stays; so does none.
+fn stays<B: CustomSection, F: Fn(&str) -> bool>(
     sections: &Sections<B>,
     id: UntypedCustomSectionId,
-    name: &str,
+    keep: &F,
 ) -> bool
-    ensures { result ≡ is_called B.own_name name.now (item_at sections.now id) }
+    requires { F.IsAlwaysCallable keep.now }
+    ensures { Stays B.own_name (FnReturnsAt F.Fn keep.now) (item_at sections.now id) result }
 {
     match sections.name(id) {
-        Some(own) => own == name,
-        None => false,
+        Some(name) => keep(name),
+        None => true,
     }
 }
 
@@ -32,34 +34,39 @@ fn past_ids<B>(sections: &Sections<B>) -> usize
     past
 }
 
-// Deletes the section of this id, if it has the name.
-fn delete_called<B: CustomSection>(
+// Deletes the section of this id, if its name isn't kept.
+#[tactic(auto, using(crate::proofs::SectionLemmas::stayed, crate::proofs::SectionLemmas::gone))]
+fn retain_at<B: CustomSection, F: Fn(&str) -> bool>(
     sections: &mut Sections<B>,
     id: UntypedCustomSectionId,
-    name: &str,
+    keep: &F,
 )
-    ensures here { item_at sections.new id ≡ unnamed B.own_name name.now (item_at sections.old id) }
+    requires { F.IsAlwaysCallable keep.now }
+    ensures here { IsRetained B.own_name (FnReturnsAt F.Fn keep.now) (item_at sections.old id) (item_at sections.new id) }
     ensures others { (other : ℕ) → (other ≡ id → ⊥) → item_at sections.new other ≡ item_at sections.old other }
     ensures ids { next_id sections.new ≡ next_id sections.old }
 {
-    if is_called(sections, id, name) {
+    if !stays(sections, id, keep) {
         let _ = sections.delete(id);
     }
 }
 
-/// Deleting by name.
-pub trait DeleteNamed {
-    /// Deletes each section of this name, raw or boxed. Its ids stay dead. Goes through the sections, and takes no memory.
-    fn delete_named(&mut self, name: &str);
+/// Keeping by name.
+pub trait Retains {
+    /// Deletes each section, raw or boxed, whose name the closure doesn't answer `true` of. Its ids stay dead. Goes through the sections, by rising id,
+    /// and takes no memory. Asks that the closure may be called on any name.
+    fn retain<F: Fn(&str) -> bool + Drop>(&mut self, keep: F)
+        requires { F.IsAlwaysCallable keep };
 }
 
-impl<B: CustomSection> DeleteNamed for Sections<B> {
-    fn delete_named(&mut self, name: &str)
-        ensures sections { (id : ℕ) → item_at self.new id ≡ unnamed B.own_name name.now (item_at self.old id) }
+impl<B: CustomSection> Retains for Sections<B> {
+    fn retain<F: Fn(&str) -> bool + Drop>(&mut self, keep: F)
+        requires { F.IsAlwaysCallable keep }
+        ensures sections { (id : ℕ) → IsRetained B.own_name (FnReturnsAt F.Fn keep) (item_at self.old id) (item_at self.new id) }
         ensures ids { next_id self.new ≡ next_id self.old }
     {
         for index in 0..past_ids(&*self) {
-            delete_called(self, UntypedCustomSectionId::from_index(index), name);
+            retain_at(self, UntypedCustomSectionId::from_index(index), &keep);
         }
     }
 }

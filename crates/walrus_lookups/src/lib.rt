@@ -8,7 +8,7 @@ mod names;
 mod places;
 
 pub use code::code_section_start;
-pub use customs::DeleteNamed;
+pub use customs::Retains;
 pub use labels::Labels;
 pub use names::{ByName, Finds};
 pub use places::Places;

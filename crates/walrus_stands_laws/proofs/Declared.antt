@@ -1,7 +1,7 @@
 -- Lemmas: what a plan declares is kept.
-use Rattle.std.specs.Prelude.{ℕ, zero, suc, ◌≡◌, ◌⊎◌, Bool, List, [], ◌∷◌, ◌++◌, Contains, Option, Some, None, slice_get, slice_index_or, refl}
-use Rattle.std.specs.List.{AllByRecursion, flat_map}
-use Rattle.std.proofs.Common.{ap, sym, ◌∙◌, subst, arith, inl, inr}
+use Rattle.std.specs.Prelude.{ℕ, ◌≡◌, Bool, List, [], ◌∷◌, Contains, Option, refl}
+use Rattle.std.specs.List.{AllByRecursion}
+use Rattle.std.proofs.Common.{ap, sym, subst, inl, inr}
 use Rattle.walrus_forms.specs.declared.value.ValType.{ValType}
 use Rattle.wasm_formats.specs.declared.fault.Space.{Space as FileSpace}
 use Rattle.wasm_formats.specs.declared.fault.Space.TheVariants as spaces
@@ -10,12 +10,12 @@ use Rattle.wasm_operators.specs.Items.{Functions, Globals}
 use Rattle.wasm_operators.specs.Names.{operator_names}
 use Rattle.wasm_operators.specs.Operators.{Seen}
 use Rattle.wasm_grammar.specs.Modules.{Body, Expr, Function, Global, Imported, Item, Origin, Own, Placed}
-use Rattle.wasm_references.specs.References.{Numbered, Refers, body_items, expr_items, function_items, global_items, item, named_by, names_items, no_locals, origin_items, value_items}
+use Rattle.wasm_references.specs.References.{Numbered, body_items, expr_items, function_items, global_items, item, named_by, names_items, no_locals, origin_items, value_items}
 use Rattle.wasm_references.specs.Kept.{IsReached, Kept, refers}
 use Rattle.wasm_part.specs.Kept.{HasKept}
 use Rattle.wasm_part.specs.Order.{BodyRefers, HasDeclared, InitRefers, IsReference, Wants, body, init}
 use Rattle.wasm_part.specs.Part.{Plan}
-use Rattle.walrus_types.proofs.Places.{Has, contains_has}
+use Rattle.walrus_types.proofs.Places.{contains_has}
 use Rattle.walrus_pass_laws.proofs.Sets.{In, contains_of, flat_in, in_left, in_of, in_right}
 use Rattle.walrus_stands_laws.specs.Declared.{DeclaredAreKept}
 
@@ -65,17 +65,25 @@ module _ (v : Numbered) (keep : Bool) (pushed : List Item) (p : Plan) (kept : Ha
   declared_kept (ns ∷ ms ∷ nss) h = absurd h
 
   all_kept : HasDeclared v.filled p p.declared → HasKept v keep pushed p
-  all_kept h = record { has = kept.has; only = kept.only; imports = kept.imports; import = kept.import; exports = kept.exports; there = record {
-    imports = kept.there.imports;
-    functions = kept.there.functions;
-    tables = kept.there.tables;
-    memories = kept.there.memories;
-    tags = kept.there.tags;
-    globals = kept.there.globals;
-    exports = kept.there.exports;
-    elements = kept.there.elements;
-    segments = kept.there.segments;
-  }; declared = declared_kept p.declared h }
+  all_kept h = record {
+    has = kept.has;
+    only = kept.only;
+    imports = kept.imports;
+    import = kept.import;
+    exports = kept.exports;
+    there = record {
+      imports = kept.there.imports;
+      functions = kept.there.functions;
+      tables = kept.there.tables;
+      memories = kept.there.memories;
+      tags = kept.there.tags;
+      globals = kept.there.globals;
+      exports = kept.there.exports;
+      elements = kept.there.elements;
+      segments = kept.there.segments;
+    };
+    declared = declared_kept p.declared h;
+  }
 
 pub declared_are_kept : DeclaredAreKept
 declared_are_kept v keep pushed p kept h = all_kept v keep pushed p kept h

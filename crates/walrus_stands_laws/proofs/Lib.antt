@@ -1,3 +1,6 @@
 mod Declared
 mod Turns
 mod Placed
+mod Types
+mod Listed
+mod Stands

@@ -1,26 +1,23 @@
 -- Lemmas: a plan that has just what is kept lists each item once, at its new number, and globals by number.
-use Rattle.std.specs.Prelude.{ℕ, zero, suc, ◌≡◌, ◌⊎◌, ◌+◌, ◌<◌, Bool, true, false, List, [], ◌∷◌, ◌++◌, length, map, Option, Some, None, IsSome, slice_get, slice_index_or, refl, if◌then◌else◌}
+use Rattle.std.specs.Prelude.{ℕ, zero, suc, ◌≡◌, ◌⊎◌, ◌+◌, ◌<◌, Bool, true, List, [], ◌∷◌, ◌++◌, length, map, Option, Some, None, IsSome, slice_get, slice_index_or, refl, if◌then◌else◌}
 use Rattle.std.specs.List.{AllByRecursion, cons_option, filter_map}
 use Rattle.std.proofs.Common.{ap, sym, ◌∙◌, subst, arith, inl, inr}
 use Rattle.std.proofs.lemmas.Bool.{cases_Bool, cases_lt, false≢true}
 use Rattle.std.proofs.lemmas.Option.{none-some, same_Some}
-use Rattle.walrus_forms.specs.Records.{TypeGroup}
 use Rattle.walrus_forms.specs.Renaming.{at}
-use Rattle.wasm_features.specs.declared.WasmFeatures.{WasmFeatures}
 use Rattle.wasm_formats.specs.declared.fault.Space.{Space as FileSpace}
 use Rattle.wasm_formats.specs.declared.fault.Space.TheVariants as spaces
 use Rattle.wasm_operators.specs.Items.{Space, Types, Functions, Tables, Memories, Tags, Globals, ElementSegments, DataSegments, Locals, Labels}
-use Rattle.wasm_grammar.specs.Modules.{Expr, Global, Import, Imported, Item, Module, Origin, Own}
+use Rattle.wasm_grammar.specs.Modules.{Expr, Global, Import, Imported, Module, Origin, Own}
 use Rattle.wasm_body_grammar.specs.Rules.{space_of}
 use Rattle.wasm_import_links.specs.Links.{ImportsLink, brought, global_brought, origin_import, slot_import}
 use Rattle.wasm_merged_modules.specs.Merged.{ids_of, merged_module}
 use Rattle.wasm_part.specs.Closed.{IsListed, Rise}
-use Rattle.wasm_part.specs.Kept.{AreFilled, HasKept, IsShared}
-use Rattle.wasm_part.specs.Order.{InOrder, OwnBefore, brought_by, brought_to, import_of, is_to, size_of}
-use Rattle.wasm_part.specs.Part.{IsIn, Plan}
-use Rattle.wasm_part.specs.Seen.{file_seen}
+use Rattle.wasm_part.specs.Kept.{AreFilled, IsShared}
+use Rattle.wasm_part.specs.Order.{InOrder, OwnBefore, brought_by, brought_to, import_of, is_to}
+use Rattle.wasm_part.specs.Part.{Plan}
 use Rattle.wasm_rewritten.specs.Orderly.{ReadFilesAreOrderly}
-use Rattle.walrus_stands_laws.specs.Placed.{IsPlaced, KeptPlansArePlaced}
+use Rattle.walrus_stands_laws.specs.Placed.{KeptPlansArePlaced}
 use Rattle.walrus_stands_laws.proofs.Turns.{InTurn, OriginBefore, read_turns, turn_at, turn_sent}
 
 -- ---- spaces
@@ -130,7 +127,7 @@ to_space Labels spaces.Label h = absurd (false≢true h)
 -- ---- what imports bring
 
 -- the import by which one is brought
-abbrev BroughtBy : Module → Space → ℕ → ℕ → Type 0
+abbrev pub BroughtBy : Module → Space → ℕ → ℕ → Type 0
 BroughtBy m space n x = brought_to space (slice_index_or m.imports x None) ≡ Some n
 
 pub record FromImport (m : Module) (space : Space) (n x : ℕ) : Type 0 where
@@ -154,7 +151,7 @@ from_import m space n x e = by (slice_index_or m.imports x None) refl e
       | inr not_to ↦ absurd (none-some n (sym (ap (λ (b : Bool). if b then Some i.item.number else None) not_to) ∙ h))
     ]
 
-names_back : (m : Module) → ImportsLink m → (space : Space) (n x : ℕ) → BroughtBy m space n x → import_of m space n ≡ Some x
+pub names_back : (m : Module) → ImportsLink m → (space : Space) (n x : ℕ) → BroughtBy m space n x → import_of m space n ≡ Some x
 names_back m links space n x e =
     let f = from_import m space n x e in
     let h = links.named x f.import f.there in
@@ -206,14 +203,14 @@ turned f (y ∷ ns) h i j k n lt e_i e_j = by (λ i j lt e_i e_j. turned f ns h.
     by rest (Some q) is (suc i) (suc j) lt e_i e_j = later (rest i j (omega (arith, lt)) e_i e_j)
 
 -- a place of two lists is one of the first or of the second
-abbrev At : List ℕ → List ℕ → ℕ → ℕ → Type 0
+abbrev pub At : List ℕ → List ℕ → ℕ → ℕ → Type 0
 At xs ys i n = ((i < length xs) × (slice_get xs i ≡ Some n)) ⊎ ((j : ℕ) × (i ≡ length xs + j) × (slice_get ys j ≡ Some n))
 
 at_later : (x : ℕ) (xs ys : List ℕ) (i n : ℕ) → At xs ys i n → At (x ∷ xs) ys (suc i) n
 at_later x xs ys i n (inl h) = inl (let lt = h.0 in omega (arith, lt), h.1)
 at_later x xs ys i n (inr h) = inr (h.0, (let e = h.1 in omega (arith, e)), h.2)
 
-split_at : (xs ys : List ℕ) (i n : ℕ) → slice_get (xs ++ ys) i ≡ Some n → At xs ys i n
+pub split_at : (xs ys : List ℕ) (i n : ℕ) → slice_get (xs ++ ys) i ≡ Some n → At xs ys i n
 split_at [] ys i n e = inr (i, omega arith, e)
 split_at (x ∷ xs) ys zero n e = inl (omega arith, e)
 split_at (x ∷ xs) ys (suc i) n e = at_later x xs ys i n (split_at xs ys i n e)

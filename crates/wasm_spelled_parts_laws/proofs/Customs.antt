@@ -1,14 +1,13 @@
 -- Lemmas: the custom sections that are written stand in their order.
-use Rattle.std.specs.Prelude.{ℕ, ◌≡◌, ◌||◌, Bool, true, false, not, List, [], ◌∷◌, ◌++◌, filter, map, Option, Some, None, refl, if◌then◌else◌}
+use Rattle.std.specs.Prelude.{ℕ, ◌≡◌, Bool, true, false, not, List, [], ◌∷◌, ◌++◌, filter, map, Some, refl, if◌then◌else◌}
 use Rattle.std.specs.List.{AllByRecursion}
 use Rattle.std.proofs.Common.{ap, sym, ◌∙◌}
-use Rattle.std.proofs.lemmas.List.{append-nil, append_assoc}
 use Rattle.wasm_features.specs.declared.WasmFeatures.{WasmFeatures}
 use Rattle.wasm_grammar.specs.Modules.{Custom, Module}
 use Rattle.wasm_name_payloads.specs.Names.{section_name}
 use Rattle.wasm_name_payloads.specs.Producers.{processed, producers_of, section_name as producers_name}
 use Rattle.wasm_name_payloads.specs.Written.{payload_bytes, producers_bytes}
-use Rattle.wasm_canonical.specs.Canonical.{CustomsInOrder, first_customs, is_linking, last_customs}
+use Rattle.wasm_canonical.specs.Canonical.{first_customs, is_linking, last_customs}
 use Rattle.wasm_canonical.specs.Due.{items_in}
 use Rattle.wasm_part.specs.Part.{Plan}
 use Rattle.wasm_rewritten.specs.Customs.{customs_written, names_kept, section_if, section_of, stays}

@@ -1,8 +1,8 @@
 -- Lemmas: the part that is written of a file is dense.
-use Rattle.std.specs.Prelude.{Bool, List, [], ◌∷◌}
+use Rattle.std.specs.Prelude.{◌≡◌, Bool, true, List, [], ◌∷◌}
 use Rattle.std.specs.List.{AllByRecursion}
 use Rattle.walrus_forms.specs.Records.{TypeGroup}
-use Rattle.wasm_merged_modules.specs.Merged.{ids_of, kept_of, once, single}
+use Rattle.wasm_merged_modules.specs.Merged.{ids_of, is_filled, kept_of, once}
 use Rattle.wasm_module_bytes.specs.Due.{IsWritten}
 use Rattle.wasm_part.specs.Handlers.{handler_groups, lacking}
 use Rattle.wasm_part.specs.Seen.{file_seen}
@@ -12,7 +12,7 @@ use Rattle.wasm_spelled_parts_laws.specs.Dense.{WrittenGroupsAreWritten, Written
 use Rattle.wasm_spelled_parts_laws.specs.Whole.{source_of}
 use Rattle.wasm_spelled_parts_laws.proofs.Groups.{IsShaped, all_joined, any_marks, groups_shaped, kept_shaped, singles_shaped}
 
-unmarked : (gs : List TypeGroup) → AllByRecursion (λ (g : TypeGroup). Unit {0} × IsWritten g) gs → AllByRecursion IsWritten gs
+unmarked : (gs : List TypeGroup) → AllByRecursion (λ (g : TypeGroup). Unit {0} × IsWritten g × (is_filled g.kinds ≡ true)) gs → AllByRecursion IsWritten gs
 unmarked [] h = tt
 unmarked (g ∷ gs) h = (h.0.1, unmarked gs h.1)
 

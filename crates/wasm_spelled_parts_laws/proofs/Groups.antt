@@ -1,5 +1,5 @@
 -- Lemmas: the groups of types that are written are those of the module, of what is written.
-use Rattle.std.specs.Prelude.{ℕ, zero, suc, ◌+◌, ◌<◌, ◌≤◌, ◌≡◌, ◌==◌, ◌&&◌, ◌⊎◌, Bool, true, false, not, List, [], ◌∷◌, ◌++◌, All, length, map, filter, take, drop, Option, Some, None, slice_index_or, refl, if◌then◌else◌}
+use Rattle.std.specs.Prelude.{ℕ, zero, suc, ◌+◌, ◌<◌, ◌≤◌, ◌≡◌, ◌==◌, ◌&&◌, ◌⊎◌, Bool, true, false, not, List, [], ◌∷◌, ◌++◌, length, map, filter, take, drop, Option, Some, None, slice_index_or, refl, if◌then◌else◌}
 use Rattle.std.specs.List.{AllByRecursion, filter_map, cons_option, range_with_len}
 use Rattle.std.specs.Option.{is_some, option_and_then}
 use Rattle.std.proofs.Common.{ap, sym, ◌∙◌, subst, arith, inl, inr}
@@ -15,7 +15,7 @@ use Rattle.walrus_types.specs.Items.{Group}
 use Rattle.walrus_types.specs.Mergers.{is_single}
 use Rattle.walrus_types.specs.Table.{Table, type_at}
 use Rattle.walrus_types.specs.walrus_items.Items.{Item}
-use Rattle.wasm_merged_modules.specs.Merged.{is_filled, is_new, kept, kept_of, renamed_group, single}
+use Rattle.wasm_merged_modules.specs.Merged.{is_filled, is_new, kept, renamed_group, single}
 use Rattle.wasm_module_bytes.specs.Due.{AreWritten, IsWritten}
 use Rattle.wasm_references.specs.References.{Numbered, numbered}
 use Rattle.wasm_part.specs.Written.{GroupsStand, has_types, with_types}
@@ -42,7 +42,7 @@ module _ (t : Table) (P : Bool → Type 0) where
       go (Some kind) e rest = ((kind, e), rest)
 
   abbrev Holds : Bool × List ℕ → Type 0
-  Holds g = P g.0 × ((g.0 ≡ true) ⊎ (length g.1 ≡ 1)) × AllByRecursion IsThere g.1
+  Holds g = P g.0 × ((g.0 ≡ true) ⊎ (length g.1 ≡ 1)) × AllByRecursion IsThere g.1 × (has_types g.1 ≡ true)
 
   one_left : (ns : List ℕ) → has_types (filter (is_written t) (take 1 ns)) ≡ true → length (filter (is_written t) (take 1 ns)) ≡ 1
   one_left [] e = absurd cc
@@ -53,8 +53,8 @@ module _ (t : Table) (P : Bool → Type 0) where
       go false e = absurd cc
 
   group_holds : (g : TypeGroup) (ns : List ℕ) → IsShaped P g → has_types (filter (is_written t) (take (length g.kinds) ns)) ≡ true
-      → P g.marked × ((g.marked ≡ true) ⊎ (length (filter (is_written t) (take (length g.kinds) ns)) ≡ 1)) × AllByRecursion IsThere (filter (is_written t) (take (length g.kinds) ns))
-  group_holds g ns h e = (h.0, go h.1, there (take (length g.kinds) ns))
+      → P g.marked × ((g.marked ≡ true) ⊎ (length (filter (is_written t) (take (length g.kinds) ns)) ≡ 1)) × AllByRecursion IsThere (filter (is_written t) (take (length g.kinds) ns)) × (has_types (filter (is_written t) (take (length g.kinds) ns)) ≡ true)
+  group_holds g ns h e = (h.0, go h.1, there (take (length g.kinds) ns), e)
     where
       go : (g.marked ≡ true) ⊎ (length g.kinds ≡ 1) → (g.marked ≡ true) ⊎ (length (filter (is_written t) (take (length g.kinds) ns)) ≡ 1)
       go (inl m) = inl m
@@ -129,14 +129,22 @@ module _ (t : Table) (P : Bool → Type 0) where
         go None is e rest = absurd cc
         go (Some kind) is e rest = (kind_plain n kind is, rest)
 
-    group_written : (g : Group) → Holds (g.explicit, g.types) → P (described_group t r g).marked × IsWritten (described_group t r g)
-    group_written g h = (h.0, (plain_written g.types h.2, go h.1))
+    filled_kinds : (ns : List ℕ) → AllByRecursion IsThere ns → has_types ns ≡ true → is_filled (map (renamed_kind r) (filter_map (written_kind t) ns)) ≡ true
+    filled_kinds [] h e = absurd cc
+    filled_kinds (n ∷ ns) h e = go (written_kind t n) h.0.1
+      where
+        go : (o : Option Kind) → o ≡ Some h.0.0 → is_filled (map (renamed_kind r) (cons_option o (filter_map (written_kind t) ns))) ≡ true
+        go None e = absurd cc
+        go (Some kind) e = refl
+
+    group_written : (g : Group) → Holds (g.explicit, g.types) → P (described_group t r g).marked × IsWritten (described_group t r g) × (is_filled (described_group t r g).kinds ≡ true)
+    group_written g h = (h.0, (plain_written g.types h.2, go h.1), filled_kinds g.types h.2 h.3)
       where
         go : (g.explicit ≡ true) ⊎ (length g.types ≡ 1) → (g.explicit ≡ true) ⊎ (length (map (renamed_kind r) (filter_map (written_kind t) g.types)) ≡ 1)
         go (inl m) = inl m
         go (inr one) = inr (length-map (filter_map (written_kind t) g.types) (renamed_kind r) ∙ kinds_many g.types h.2 ∙ one)
 
-    groups_written : (gs : List Group) → AllByRecursion (λ (g : Group). Holds (g.explicit, g.types)) gs → AllByRecursion (λ (g : TypeGroup). P g.marked × IsWritten g) (map (described_group t r) gs)
+    groups_written : (gs : List Group) → AllByRecursion (λ (g : Group). Holds (g.explicit, g.types)) gs → AllByRecursion (λ (g : TypeGroup). P g.marked × IsWritten g × (is_filled g.kinds ≡ true)) (map (described_group t r) gs)
     groups_written [] h = tt
     groups_written (g ∷ gs) h = (group_written g h.0, groups_written gs h.1)
 
@@ -147,7 +155,7 @@ range_below first zero most le = tt
 range_below first (suc n) most le = (omega (arith, le), range_below (first + 1) n most (omega (arith, le)))
 
 pub groups_shaped : (t : Table) (P : Bool → Type 0) (v : Numbered) (out : List TypeGroup) (indices : List (Option ℕ)) → IsEmission t out indices → GroupsStand t v
-    → AllByRecursion (IsShaped P) v.filled.groups → AllByRecursion (λ (g : TypeGroup). P g.marked × IsWritten g) out
+    → AllByRecursion (IsShaped P) v.filled.groups → AllByRecursion (λ (g : TypeGroup). P g.marked × IsWritten g × (is_filled g.kinds ≡ true)) out
 groups_shaped t P v out indices e stand h =
     let gs = written_groups t in
     let order = e.arranged.in_order.order in
@@ -157,7 +165,7 @@ groups_shaped t P v out indices e stand h =
     let below = recursion_from_All Below order (All-permutation Below run order e.arranged.in_order.ordered.whole (All-from_recursion Below run (range_below 0 (length (map (key_of t) gs)) (length gs) (omega (arith, many))))) in
     let good = picked_good t P v gs (written_good t P v stand h) order below in
     let all = subst (λ (l : List Group). AllByRecursion (λ (g : Group). Holds t P (g.explicit, g.types)) l) (sym e.arranged.in_order.places) good in
-    subst (λ (l : List TypeGroup). AllByRecursion (λ (g : TypeGroup). P g.marked × IsWritten g) l) (sym e.described) (groups_written t P (index_at indices) e.groups all)
+    subst (λ (l : List TypeGroup). AllByRecursion (λ (g : TypeGroup). P g.marked × IsWritten g × (is_filled g.kinds ≡ true)) l) (sym e.described) (groups_written t P (index_at indices) e.groups all)
 
 -- ---- the merged types of a file, and those of its handlers behind them
 

@@ -1,15 +1,14 @@
 -- Lemmas: the part that is written of a file meets the rules.
-use Rattle.std.specs.Prelude.{ℕ, zero, suc, ◌≡◌, ◌||◌, Bool, true, false, List, [], ◌∷◌, ◌++◌, map, Option, Some, None, slice_get, slice_index_or, refl}
-use Rattle.std.specs.List.{AllByRecursion, cons_option, filter_map, flat_map, list_any}
+use Rattle.std.specs.Prelude.{ℕ, zero, suc, ◌≡◌, ◌||◌, Bool, true, false, List, [], ◌∷◌, map, Option, Some, None, slice_get, slice_index_or, refl}
+use Rattle.std.specs.List.{AllByRecursion, list_any}
 use Rattle.std.specs.Option.{option_map}
-use Rattle.std.proofs.Common.{ap, sym, ◌∙◌, subst}
+use Rattle.std.proofs.Common.{ap, ◌∙◌}
 use Rattle.wasm_operators.specs.Items.{Functions}
 use Rattle.wasm_operators.specs.NameLaws.{NamesAreRenamed, renamed_name}
 use Rattle.wasm_operators.specs.Names.{Name, Renaming, operator_names, renamed_operator}
 use Rattle.wasm_operators.specs.Operators.{Seen}
 use Rattle.wasm_grammar.specs.Modules.{Body, Function, Imported, Module, Origin, Own, Placed, Segment}
 use Rattle.wasm_body_grammar.specs.Rules.{is_segment}
-use Rattle.wasm_ruled_modules.specs.Rules.{IsCounted}
 use Rattle.wasm_canonical.specs.Due.{body_names_segment, counts_data, is_passive, items_in, names_segment}
 use Rattle.wasm_part.specs.Closed.{SegmentCounts}
 use Rattle.wasm_part.specs.Kept.{BodyCounts}

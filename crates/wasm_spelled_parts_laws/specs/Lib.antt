@@ -1,4 +1,10 @@
 pub mod Customs
 pub mod Dense
+pub mod Due
+pub mod Items
+pub mod Merged
+pub mod Operators
+pub mod Parts
 pub mod Ruled
 pub mod Whole
+pub mod Written

@@ -2,7 +2,13 @@
 
 ghost use Rattle.wasm_spelled_parts_laws.specs.Customs.{WrittenCustomsAreInOrder};
 ghost use Rattle.wasm_spelled_parts_laws.specs.Dense.{WrittenGroupsAreWritten, WrittenPartsAreDense};
+ghost use Rattle.wasm_spelled_parts_laws.specs.Due.{ItemsInAreSpelled};
+ghost use Rattle.wasm_spelled_parts_laws.specs.Items.{ReadItemsAreIn};
+ghost use Rattle.wasm_spelled_parts_laws.specs.Merged.{MergedItemsAreIn};
+ghost use Rattle.wasm_spelled_parts_laws.specs.Operators.{FittingNamesAreSmall, FittingOperatorsAreSpelled, RenamedOperatorsFit};
+ghost use Rattle.wasm_spelled_parts_laws.specs.Parts.{WrittenItemsAreIn};
 ghost use Rattle.wasm_spelled_parts_laws.specs.Ruled.{CountedPartsAreRuled};
+ghost use Rattle.wasm_spelled_parts_laws.specs.Written.{DuePartsAreRead, DuePartsAreRewritten, DuePartsAreWritten};
 
 /// The custom sections that are written of a file stand in their order (Core Specification, binary format: custom section).
 pub fn written_customs_are_in_order()
@@ -29,4 +35,92 @@ pub fn counted_parts_are_ruled()
 {
     wasm_operators::laws::names_are_renamed();
     wasm_rewritten::laws::written_parts_are_ruled();
+}
+
+/// An operator within the ranges of its immediates stays there where what it names has new numbers within theirs (Core Specification, binary format: instructions).
+pub fn renamed_operators_fit()
+    ensures { RenamedOperatorsFit }
+{}
+
+/// Such an operator names numbers of 32 bits.
+pub fn fitting_names_are_small()
+    ensures { FittingNamesAreSmall }
+{}
+
+/// Such an operator has a spelling.
+pub fn fitting_operators_are_spelled()
+    ensures { FittingOperatorsAreSpelled }
+{}
+
+/// The items of what is read are within the limits of their formats.
+pub fn read_items_are_in()
+    ensures { ReadItemsAreIn }
+{
+    wasm_spelled_modules::laws::read_sections_are_spelled();
+}
+
+/// So are those of a file's module in normal form, with its types merged and those of its handlers behind them.
+pub fn merged_items_are_in()
+    ensures { MergedItemsAreIn }
+{
+    wasm_merged_modules::laws::types_are_merged();
+    wasm_normal_modules::laws::normal_forms_of_read_modules_are_ruled();
+    wasm_ruled_modules::laws::read_modules_are_ruled();
+    fitting_names_are_small();
+    renamed_operators_fit();
+}
+
+/// So are those of the part that is written of a file, with the numbers that they name, where none of its lists is longer than it may be.
+pub fn written_items_are_in()
+    ensures { WrittenItemsAreIn }
+{
+    read_items_are_in();
+    merged_items_are_in();
+    fitting_names_are_small();
+    renamed_operators_fit();
+    wasm_ruled_modules::laws::read_modules_are_ruled();
+    wasm_normal_modules::laws::normal_forms_of_read_modules_are_ruled();
+    wasm_part::laws::handlers_are_missing();
+    wasm_merged_modules::laws::new_kinds_stand_behind();
+    wasm_rewritten::laws::read_files_are_picked();
+    wasm_rewritten::laws::files_name_their_locals();
+    wasm_rewritten::laws::read_files_are_orderly();
+    wasm_part::laws::emitted_types_stand();
+    wasm_part::laws::kept_is_closed();
+}
+
+/// A dense module that meets the rules has a spelling for each of its items, where these and their numbers are within their limits and its bodies are.
+pub fn items_in_are_spelled()
+    ensures { ItemsInAreSpelled }
+{
+    fitting_operators_are_spelled();
+}
+
+/// The part that is written of a file, with its custom sections, stands as a module does in a file, meets the rules, and has spellings for its items.
+pub fn due_parts_are_written()
+    ensures { DuePartsAreWritten }
+{
+    written_parts_are_dense();
+    counted_parts_are_ruled();
+    written_customs_are_in_order();
+    read_items_are_in();
+    written_items_are_in();
+    items_in_are_spelled();
+}
+
+/// Its canonical bytes read as it, places aside.
+pub fn due_parts_are_read()
+    ensures { DuePartsAreRead }
+{
+    due_parts_are_written();
+    wasm_canonical::laws::spelled_are_canonical();
+}
+
+/// They are the file rewritten, with the pairs of places of its bodies, or without.
+pub fn due_parts_are_rewritten()
+    ensures { DuePartsAreRewritten }
+{
+    due_parts_are_written();
+    due_parts_are_read();
+    wasm_places_laws::laws::written_pairs_are_places();
 }
