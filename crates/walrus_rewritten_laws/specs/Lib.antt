@@ -2,3 +2,4 @@ pub mod Made
 pub mod Planned
 pub mod Bytes
 pub mod Rewritten
+pub mod Files

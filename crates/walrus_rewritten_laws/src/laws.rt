@@ -1,6 +1,7 @@
 //! Laws: functions with nothing to do but to call others, whose contracts hold of all modules.
 
 ghost use Rattle.walrus_rewritten_laws.specs.Bytes.{WrittenBytesAreCanonical};
+ghost use Rattle.walrus_rewritten_laws.specs.Files.{KeptFilesAreRewritten};
 ghost use Rattle.walrus_rewritten_laws.specs.Planned.{KeptModulesArePlanned, WrittenModulesArePlanned};
 ghost use Rattle.walrus_rewritten_laws.specs.Rewritten.{MadeAreRewritten, SpelledPartsAreRewritten};
 
@@ -50,4 +51,15 @@ pub fn made_are_rewritten<B>()
     written_bytes_are_canonical::<B>();
     walrus_places_laws::laws::locations_are_places();
     spelled_parts_are_rewritten();
+}
+
+/// The part that was written stands for the file, in order, and has spellings: so it is the file rewritten.
+pub fn kept_files_are_rewritten<B>()
+    ensures { KeptFilesAreRewritten B }
+{
+    kept_modules_are_planned::<B>();
+    written_bytes_are_canonical::<B>();
+    walrus_stands_laws::laws::emissions_stand_for_files::<B>();
+    wasm_spelled_parts_laws::laws::due_parts_are_written();
+    made_are_rewritten::<B>();
 }
