@@ -1,11 +1,10 @@
 -- Lemmas: what was written of a module is cut into its parts.
-use Rattle.std.specs.Prelude.{ℕ, ◌≡◌, ◌++◌, Bool, true, false, not, List, [], ◌∷◌, Option, filter, length, map, refl}
+use Rattle.std.specs.Prelude.{ℕ, ◌≡◌, ◌++◌, Bool, true, false, List, Option, filter, length, map}
 use Rattle.std.specs.List.{list_any}
-use Rattle.std.proofs.Common.{ap, sym, ◌∙◌, subst}
+use Rattle.std.proofs.Common.{ap, sym, ◌∙◌}
 use Rattle.std.proofs.lemmas.List.{append_assoc}
 use Rattle.wasm_features.specs.declared.WasmFeatures.{WasmFeatures}
 use Rattle.wasm_formats.specs.declared.fault.Limited.TheVariants.{Types as TypeLimit}
-use Rattle.wasm_operators.specs.Items.{Functions}
 use Rattle.wasm_grammar.specs.Modules as grammar
 use Rattle.wasm_sections.specs.Modules.{magic}
 use Rattle.wasm_canonical.specs.Canonical.{canonical_bytes, is_linking}
@@ -33,7 +32,7 @@ use Rattle.walrus_code_laws.specs.Parts.{AreTold, PartsAreCanonical, all_due, nu
 use Rattle.walrus_code_laws.proofs.Bodies.{limit_off}
 use Rattle.walrus_plan_laws.specs.Behind.{SegmentsNameNoLocals}
 use Rattle.walrus_plan_laws.specs.Plans.{plan_of}
-use Rattle.walrus_rewritten_laws.specs.Bytes.{SpellsCustoms, TellsSegments, WrittenBytesAreCanonical, later}
+use Rattle.walrus_rewritten_laws.specs.Bytes.{PlansTellSegments, SpellsCustoms, TellsSegments, WrittenBytesAreCanonical, later}
 use Rattle.walrus_rewritten_laws.specs.Planned.{IsPlanned}
 
 regrouped : (f d c s p l : Due) → ((f ++ d) ++ (c ++ (s ++ p))) ++ l ≡ f ++ ((d ++ (c ++ s)) ++ (p ++ l))
@@ -92,6 +91,6 @@ module _ {B : Type 0} (own_name : B → List ℕ) (contents : B → Indices → 
       (ap (λ (functions : List ℕ). (written header ++ first) ++ (all_due by (parts new) (facts_at w.facts w.order) functions (types w.emitted) named ++ last)) planned.own
       ∙ sym (cut behind))
 
-pub bytes_canonical : {B : Type 0} → TypesAreSpelled → SegmentsNameNoLocals B → PartsAreCanonical → WrittenBytesAreCanonical B
-bytes_canonical types_spelled behind part_canonical features own_name contents old new bytes w planned tell customs spells =
-    canonical own_name contents old new bytes w types_spelled behind part_canonical features planned tell customs spells
+pub bytes_canonical : {B : Type 0} → TypesAreSpelled → SegmentsNameNoLocals B → PlansTellSegments B → PartsAreCanonical → WrittenBytesAreCanonical B
+bytes_canonical types_spelled behind tell part_canonical features own_name contents old new bytes w planned customs spells =
+    canonical own_name contents old new bytes w types_spelled behind part_canonical features planned (tell new w.facts w.order w.emitted planned) customs spells

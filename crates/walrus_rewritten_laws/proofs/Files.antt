@@ -1,5 +1,5 @@
 -- Lemmas: what was written of what is kept of a module that was read is its file rewritten.
-use Rattle.std.specs.Prelude.{ℕ, ◌≡◌, ◌≤◌, ◌^◌, List, length, map, Option, Some}
+use Rattle.std.specs.Prelude.{ℕ, ◌≡◌, List, map, Some}
 use Rattle.std.proofs.Common.{ap, ◌∙◌, subst}
 use Rattle.wasm_grammar.specs.Modules as grammar
 use Rattle.wasm_modules.specs.Modules.{IsShort}
@@ -40,7 +40,7 @@ files_rewritten planned_of canonical_of stand due made own_name contents transfo
     let customs = map (λ (c : grammar.Custom). Some c) (customs_written config.generate_name_section config.generate_producers_section features file p) in
     let k = written_part place_of config.generate_name_section config.generate_producers_section features file p in
     let are : emission.bytes.items ≡ canonical_bytes features k =
-    canonical_of features own_name contents kept left emission.bytes.items w planned known.segments customs known.customs
+    canonical_of features own_name contents kept left emission.bytes.items w planned customs known.customs
     ∙ ap (λ (m : grammar.Module). canonical_bytes features (record m { customs = customs })) stands.same in
     let small : IsShort (canonical_bytes features k) = subst (λ (b : List ℕ). IsShort b) are short in
     let is_due : IsDue place_of config.generate_name_section config.generate_producers_section config.keep_segments features input file t p = record {
@@ -59,7 +59,6 @@ files_rewritten planned_of canonical_of stand due made own_name contents transfo
       plan = p;
       stands = plan;
       same = stands.same;
-      segments = known.segments;
       customs = known.customs;
       spelled = due place_of config.generate_name_section config.generate_producers_section config.keep_segments features input file t p is_due;
     } in

@@ -2,3 +2,4 @@ mod Planned
 mod Bytes
 mod Rewritten
 mod Files
+mod Segments

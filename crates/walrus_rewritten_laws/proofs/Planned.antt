@@ -1,39 +1,32 @@
 -- Lemmas: what is kept of a module that was read is written by the numbers of its plan.
-use Rattle.std.specs.Prelude.{ℕ, zero, suc, ◌+◌, ◌<◌, ◌≡◌, ◌⊎◌, List, [], ◌∷◌, All, length, Option, Some, None, slice_get, refl}
-use Rattle.std.specs.List.{AllByRecursion}
-use Rattle.std.specs.List.Sorted.{IsPermutation}
+use Rattle.std.specs.Prelude.{ℕ, zero, suc, ◌+◌, ◌<◌, ◌≡◌, List, [], ◌∷◌, All, length, Some, slice_get, refl}
 use Rattle.std.proofs.Common.{ap, sym, ◌∙◌, subst, arith, inl, inr}
 use Rattle.std.proofs.lemmas.List.Elements.{All-cons, All-nil}
 use Rattle.std.proofs.lemmas.List.Sorted.{All-permutation}
 use Rattle.std.proofs.lemmas.Option.{none-some, same_Some}
-use Rattle.wasm_operators.specs.Items.{Functions}
 use Rattle.walrus_arena.specs.Arena.{item_at}
-use Rattle.walrus_index_maps.specs.Maps.{Indices}
 use Rattle.walrus_index_maps.specs.Runs.{run_from}
-use Rattle.walrus_linked.specs.Linked.{IsLinked, IsWhole}
+use Rattle.walrus_linked.specs.Linked.{IsWhole}
 use Rattle.walrus_local_function.specs.declared.local_function.LocalFunction.{LocalFunction}
 use Rattle.walrus_local_numbers.specs.Laws.{IsOnce}
 use Rattle.walrus_module.specs.Parts.{parts, Module as Parts}
-use Rattle.walrus_module.specs.declared.module.Module.{Module}
 use Rattle.walrus_module_items.specs.Functions.{local_of}
 use Rattle.walrus_module_items.specs.declared.function.Function.{Function}
 use Rattle.walrus_module_items.specs.declared.function.FunctionKind.{FunctionKind}
 use Rattle.walrus_module_items.specs.declared.function.FunctionKind.TheVariants as functions
 use Rattle.walrus_types.specs.Table.{Table}
 use Rattle.walrus_tree.specs.Trees.{AreDistinct, Has}
-use Rattle.walrus_emit_code.specs.Code.{facts_at}
 use Rattle.walrus_emit_numbers.specs.declared.facts.BodyFacts.{BodyFacts}
 use Rattle.walrus_emit_numbers.specs.Order.{AreWithin, IsOrder}
-use Rattle.walrus_emit.specs.Written.{IsWritten}
 use Rattle.walrus_parse_laws.specs.Linked.{ReadModulesAreLinked}
 use Rattle.walrus_pass_laws.specs.LinkedKept.{GcKeepsLinked}
 use Rattle.walrus_code_laws.specs.Emissions.{ArgumentsAreOnce, EmissionsServeCode, IsByNumbers}
 use Rattle.walrus_own_ids_laws.specs.OwnIds.{KeptItemsHaveOwnIds, ReadItemsHaveOwnIds}
 use Rattle.walrus_places_laws.specs.Order.{FactsStandInOrder}
-use Rattle.walrus_plan_laws.specs.Emissions.{EmissionsHavePlans, ItemsHaveOwnIds}
+use Rattle.walrus_plan_laws.specs.Emissions.{EmissionsHavePlans}
 use Rattle.walrus_plan_laws.specs.Plans.{plan_of}
 use Rattle.walrus_plan_laws.specs.Written.{WrittenModulesAreReady}
-use Rattle.walrus_rewritten_laws.specs.Planned.{IsPlanned, KeptModulesArePlanned, WrittenModulesArePlanned}
+use Rattle.walrus_rewritten_laws.specs.Planned.{KeptModulesArePlanned, WrittenModulesArePlanned}
 
 -- ---- positions
 

@@ -1,19 +1,16 @@
 -- Lemmas: what was made of a file is the file rewritten.
-use Rattle.std.specs.Prelude.{ℕ, ◌≡◌, ◌++◌, Bool, true, false, List, [], ◌∷◌, map, Option, Some, None, MatchOption, refl}
+use Rattle.std.specs.Prelude.{ℕ, ◌≡◌, Bool, true, false, List, [], ◌∷◌, map, Option, Some, None, MatchOption}
 use Rattle.std.proofs.Common.{ap, sym, ◌∙◌, subst}
-use Rattle.wasm_features.specs.declared.WasmFeatures.{WasmFeatures}
 use Rattle.wasm_operators.specs.Items.{Functions}
 use Rattle.wasm_grammar.specs.Modules as grammar
 use Rattle.wasm_modules.specs.Modules.{Reads}
 use Rattle.wasm_module_bytes.specs.Bytes.{without_places}
 use Rattle.wasm_canonical.specs.Canonical.{bytes_due, canonical_bytes}
 use Rattle.wasm_canonical.specs.CanonicalReads.{SpelledAreCanonical}
-use Rattle.wasm_part.specs.Handlers.{handler_groups}
-use Rattle.wasm_part.specs.Part.{Plan, part}
+use Rattle.wasm_part.specs.Part.{part}
 use Rattle.wasm_part.specs.Stands.{Stands}
 use Rattle.wasm_rewritten.specs.Customs.{customs_written}
 use Rattle.wasm_rewritten.specs.Places.{ArePlaces}
-use Rattle.wasm_rewritten.specs.Rewritten.{Rewritten}
 use Rattle.wasm_places_laws.specs.Places.{FunctionsAtPlaces}
 use Rattle.wasm_spelled_parts_laws.specs.Whole.{source_of, written_part}
 use Rattle.walrus_config.specs.declared.config.ModuleConfig.{ModuleConfig}
@@ -25,17 +22,14 @@ use Rattle.walrus_parse_laws.specs.Meant.{place_of}
 use Rattle.walrus_emit_code.specs.Code.{facts_at}
 use Rattle.walrus_emit_code.specs.Places as places
 use Rattle.walrus_emit_code.specs.Places.{if_kept}
-use Rattle.walrus_emit_code.specs.declared.emission.Emission.{Emission}
 use Rattle.walrus_emit_numbers.specs.Undeclared.{undeclared_of}
 use Rattle.walrus_emit.specs.Left.{Declares}
 use Rattle.walrus_emit.specs.Whole.{closing, numbers, opening, sections, with_bodies}
-use Rattle.walrus_emit.specs.Written.{IsWritten}
-use Rattle.walrus_code_laws.specs.Parts.{numbered}
 use Rattle.walrus_places_laws.specs.Places.{LocationsArePlaces}
 use Rattle.walrus_plan_laws.specs.Plans.{plan_of}
 use Rattle.walrus_rewritten_laws.specs.Bytes.{WrittenBytesAreCanonical}
-use Rattle.walrus_rewritten_laws.specs.Planned.{IsPlanned, KeptModulesArePlanned}
-use Rattle.walrus_rewritten_laws.specs.Rewritten.{MadeAreRewritten, SpelledPartsAreRewritten, WritesFile, if_asked}
+use Rattle.walrus_rewritten_laws.specs.Planned.{KeptModulesArePlanned}
+use Rattle.walrus_rewritten_laws.specs.Rewritten.{MadeAreRewritten, SpelledPartsAreRewritten, if_asked}
 
 abbrev customs_in : grammar.Module → List (Option grammar.Custom)
 customs_in m = m.customs
@@ -82,7 +76,7 @@ made_rewritten {B} planned_of canonical_of places_of rewritten own_name contents
     let planned = planned_of config input read found bytes is kept keeps.part own_name contents left emission.bytes.items w in
     let customs = map (λ (c : grammar.Custom). Some c) (customs_written config.generate_name_section config.generate_producers_section features file p) in
     let k = written_part place_of config.generate_name_section config.generate_producers_section features file p in
-    let mine = canonical_of features own_name contents kept left emission.bytes.items w planned known.segments customs known.customs in
+    let mine = canonical_of features own_name contents kept left emission.bytes.items w planned customs known.customs in
     let are : emission.bytes.items ≡ canonical_bytes features k =
     mine ∙ ap (λ (m : grammar.Module). canonical_bytes features (record m { customs = customs })) known.same in
     let flags : left.config ≡ config =

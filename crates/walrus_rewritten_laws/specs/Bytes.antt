@@ -41,8 +41,12 @@ module _ {B : Type 0} (own_name : B → List ℕ) (contents : B → Indices → 
 abbrev pub TellsSegments : {B : Type 0} → Module B → List BodyFacts → List ℕ → EmittedTypes → Type 0
 TellsSegments left facts order emitted = list_any (λ (f : BodyFacts). f.uses_data_segments) facts ≡ names_segments (part (plan_of left facts order emitted) (means (parts left)))
 
+-- so it is of what is written by its plan
+abbrev pub PlansTellSegments : Type 0 → Type 0
+PlansTellSegments B = (left : Module B) (facts : List BodyFacts) (order : List ℕ) (emitted : EmittedTypes) → IsPlanned left facts order emitted → TellsSegments left facts order emitted
+
 abbrev pub WrittenBytesAreCanonical : Type 0 → Type 0
 WrittenBytesAreCanonical B = (features : WasmFeatures) (own_name : B → List ℕ) (contents : B → Indices → Option (List ℕ)) (old new : Module B) (bytes : List ℕ) (w : IsWritten own_name contents old new bytes)
-    → IsPlanned new w.facts w.order w.emitted → TellsSegments new w.facts w.order w.emitted
+    → IsPlanned new w.facts w.order w.emitted
     → (customs : List (Option grammar.Custom)) → SpellsCustoms own_name contents (record new { customs = old.customs }) w.facts w.order w.emitted new.customs features customs
     → bytes ≡ canonical_bytes features (record (part (plan_of new w.facts w.order w.emitted) (numbered (parts new))) { customs = customs })

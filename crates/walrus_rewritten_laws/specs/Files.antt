@@ -1,5 +1,5 @@
 -- What was written of what is kept of a module that was read is its file rewritten.
-use Rattle.std.specs.Prelude.{ℕ, ◌≡◌, ◌≤◌, ◌^◌, ◌<◌, All, List, [], length, map, Option, Some}
+use Rattle.std.specs.Prelude.{ℕ, ◌≤◌, ◌^◌, ◌<◌, All, List, [], length, map, Option, Some}
 use Rattle.wasm_grammar.specs.Modules as grammar
 use Rattle.wasm_modules.specs.Modules.{Reads}
 use Rattle.wasm_ruled_modules.specs.Rules.{IsCounted}
@@ -24,7 +24,7 @@ use Rattle.walrus_emit_code.specs.declared.emission.Emission.{Emission}
 use Rattle.walrus_emit.specs.Written.{IsWritten}
 use Rattle.walrus_kept_laws.specs.Alike.{KeptAlike}
 use Rattle.walrus_stands_laws.specs.Stands.{plan_in_file}
-use Rattle.walrus_rewritten_laws.specs.Bytes.{SpellsCustoms, TellsSegments}
+use Rattle.walrus_rewritten_laws.specs.Bytes.{SpellsCustoms}
 use Rattle.walrus_rewritten_laws.specs.Made.{Keeps, WritesOut}
 use Rattle.walrus_rewritten_laws.specs.Rewritten.{if_asked}
 
@@ -41,8 +41,7 @@ module _ {B : Type 0} (own_name : B → List ℕ) (contents : B → Indices → 
     -- no list is longer than it may be, nor is a body
     pub counted : IsCounted (part its_plan (source_of place_of (read_features config) file))
     pub bodies : BodiesAreShort (read_features config) (written_part place_of config.generate_name_section config.generate_producers_section (read_features config) file its_plan)
-    -- bodies name data segments where that was told, and custom sections are those that are due
-    pub segments : TellsSegments left w.facts w.order w.emitted
+    -- custom sections are those that are due
     pub customs : SpellsCustoms own_name contents (record left { customs = kept.customs }) w.facts w.order w.emitted left.customs (read_features config)
         (map (λ (c : grammar.Custom). Some c) (customs_written config.generate_name_section config.generate_producers_section (read_features config) file its_plan))
 

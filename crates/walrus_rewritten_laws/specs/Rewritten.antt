@@ -1,5 +1,5 @@
 -- What was made of a file is the file rewritten.
-use Rattle.std.specs.Prelude.{ℕ, ◌≡◌, ◌≤◌, ◌^◌, ◌<◌, Bool, true, false, All, List, [], length, map, Option, Some, None, MatchOption}
+use Rattle.std.specs.Prelude.{ℕ, ◌≡◌, ◌<◌, Bool, true, false, All, List, [], map, Option, Some, None, MatchOption}
 use Rattle.wasm_features.specs.declared.WasmFeatures.{WasmFeatures}
 use Rattle.wasm_grammar.specs.Modules as grammar
 use Rattle.wasm_modules.specs.Modules.{Reads}
@@ -26,7 +26,7 @@ use Rattle.walrus_emit_code.specs.declared.emission.Emission.{Emission}
 use Rattle.walrus_emit.specs.Written.{IsWritten}
 use Rattle.walrus_code_laws.specs.Parts.{numbered}
 use Rattle.walrus_plan_laws.specs.Plans.{plan_of}
-use Rattle.walrus_rewritten_laws.specs.Bytes.{SpellsCustoms, TellsSegments}
+use Rattle.walrus_rewritten_laws.specs.Bytes.{SpellsCustoms}
 use Rattle.walrus_rewritten_laws.specs.Made.{Keeps, WritesOut}
 
 -- ---- of a plan of the file's module
@@ -60,7 +60,6 @@ module _ {B : Type 0} (own_name : B → List ℕ) (contents : B → Indices → 
     pub plan : Plan
     pub stands : PlanStands place_of config.keep_segments (read_features config) file table plan
     pub same : part (plan_of left w.facts w.order w.emitted) (numbered (parts left)) ≡ part plan (source_of place_of (read_features config) file)
-    pub segments : TellsSegments left w.facts w.order w.emitted
     pub customs : SpellsCustoms own_name contents (record left { customs = kept.customs }) w.facts w.order w.emitted left.customs (read_features config)
         (map (λ (c : grammar.Custom). Some c) (customs_written config.generate_name_section config.generate_producers_section (read_features config) file plan))
     pub spelled : IsWrittenPart (read_features config) (source_of place_of (read_features config) file)

@@ -1,6 +1,6 @@
 //! Laws: functions with nothing to do but to call others, whose contracts hold of all modules.
 
-ghost use Rattle.walrus_rewritten_laws.specs.Bytes.{WrittenBytesAreCanonical};
+ghost use Rattle.walrus_rewritten_laws.specs.Bytes.{PlansTellSegments, WrittenBytesAreCanonical};
 ghost use Rattle.walrus_rewritten_laws.specs.Files.{KeptFilesAreRewritten};
 ghost use Rattle.walrus_rewritten_laws.specs.Planned.{KeptModulesArePlanned, WrittenModulesArePlanned};
 ghost use Rattle.walrus_rewritten_laws.specs.Rewritten.{MadeAreRewritten, SpelledPartsAreRewritten};
@@ -27,12 +27,18 @@ pub fn kept_modules_are_planned<B>()
     walrus_own_ids_laws::laws::kept_items_have_own_ids();
 }
 
+/// Whether the bodies of the part name data segments is told by what is known of those of the module (Core Specification, binary format: data count section).
+pub fn plans_tell_segments<B>()
+    ensures { PlansTellSegments B }
+{}
+
 /// The bytes that were written are the canonical bytes of the part by its plan, with the custom sections that are due (Core Specification, binary format: modules).
 pub fn written_bytes_are_canonical<B>()
     ensures { WrittenBytesAreCanonical B }
 {
     walrus_due_laws::laws::types_are_spelled();
     walrus_plan_laws::laws::segments_name_no_locals::<B>();
+    plans_tell_segments::<B>();
     walrus_code_laws::laws::parts_are_canonical();
 }
 
