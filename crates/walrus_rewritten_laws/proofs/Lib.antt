@@ -1,1 +1,4 @@
 mod Planned
+mod Bytes
+mod Rewritten
+mod Files

@@ -1,0 +1,66 @@
+-- Lemmas: what was written of what is kept of a module that was read is its file rewritten.
+use Rattle.std.specs.Prelude.{ℕ, ◌≡◌, ◌≤◌, ◌^◌, List, length, map, Option, Some}
+use Rattle.std.proofs.Common.{ap, ◌∙◌, subst}
+use Rattle.wasm_grammar.specs.Modules as grammar
+use Rattle.wasm_modules.specs.Modules.{IsShort}
+use Rattle.wasm_canonical.specs.Canonical.{canonical_bytes}
+use Rattle.wasm_rewritten.specs.Customs.{customs_written}
+use Rattle.wasm_spelled_parts_laws.specs.Whole.{written_part}
+use Rattle.wasm_spelled_parts_laws.specs.Written.{DuePartsAreWritten, IsDue}
+use Rattle.walrus_named_bodies.specs.Parsed.{read_features}
+use Rattle.walrus_parse_laws.specs.Meant.{place_of}
+use Rattle.walrus_stands_laws.specs.Stands.{EmissionsStandForFiles, IsLeft, plan_in_file, types_in_file}
+use Rattle.walrus_rewritten_laws.specs.Bytes.{WrittenBytesAreCanonical}
+use Rattle.walrus_rewritten_laws.specs.Files.{KeptFilesAreRewritten}
+use Rattle.walrus_rewritten_laws.specs.Planned.{KeptModulesArePlanned}
+use Rattle.walrus_rewritten_laws.specs.Rewritten.{MadeAreRewritten, PlanStands, WritesFile}
+
+pub files_rewritten : {B : Type 0} → KeptModulesArePlanned B → WrittenBytesAreCanonical B → EmissionsStandForFiles B → DuePartsAreWritten → MadeAreRewritten B → KeptFilesAreRewritten B
+files_rewritten planned_of canonical_of stand due made own_name contents transformed config input read found bytes is kept left emission keeps out short file reads means known =
+    let features = read_features config in
+    let w = out.emitted.written in
+    let planned = planned_of config input read found bytes is kept keeps.part own_name contents left emission.bytes.items w in
+    let p = plan_in_file config input file found read kept left w.facts w.order w.emitted in
+    let t = types_in_file config input file found read kept left w.facts w.order w.emitted in
+    let is_left : IsLeft config input file found read kept left w.facts w.order w.emitted = record {
+      is_read = is;
+      reads = reads;
+      means = means;
+      grouped = keeps.grouped;
+      alike = known.alike;
+      sound = keeps.sound;
+      part = keeps.part;
+      still = keeps.left_grouped;
+      known = w.known;
+      declares = w.declared;
+      types = w.types;
+      plan = planned.plan;
+    } in
+    let stands = stand config input file found read kept left w.facts w.order w.emitted is_left in
+    let customs = map (λ (c : grammar.Custom). Some c) (customs_written config.generate_name_section config.generate_producers_section features file p) in
+    let k = written_part place_of config.generate_name_section config.generate_producers_section features file p in
+    let are : emission.bytes.items ≡ canonical_bytes features k =
+    canonical_of features own_name contents kept left emission.bytes.items w planned known.segments customs known.customs
+    ∙ ap (λ (m : grammar.Module). canonical_bytes features (record m { customs = customs })) stands.same in
+    let small : IsShort (canonical_bytes features k) = subst (λ (b : List ℕ). IsShort b) are short in
+    let is_due : IsDue place_of config.generate_name_section config.generate_producers_section config.keep_segments features input file t p = record {
+      small = bytes;
+      reads = reads;
+      writes = stands.writes;
+      ordered = stands.ordered;
+      declared = stands.declared;
+      counted = known.counted;
+      bodies = known.bodies;
+      short = small;
+    } in
+    let plan : PlanStands place_of config.keep_segments features file t p = record { writes = stands.writes; ordered = stands.ordered; declared = stands.declared } in
+    let writes : WritesFile own_name contents config kept left emission.bytes.items w file = record {
+      table = t;
+      plan = p;
+      stands = plan;
+      same = stands.same;
+      segments = known.segments;
+      customs = known.customs;
+      spelled = due place_of config.generate_name_section config.generate_producers_section config.keep_segments features input file t p is_due;
+    } in
+    made own_name contents transformed config input read found bytes is kept left emission keeps out file reads writes
