@@ -10,7 +10,7 @@ use Rattle.wasm_operators.specs.Bytes.{operator_bytes}
 use Rattle.wasm_operators.specs.Items as items
 use Rattle.wasm_operators.specs.NameLaws.{after, same}
 use Rattle.wasm_operators.specs.Names.{Renaming}
-use Rattle.wasm_grammar.specs.Modules.{Placed, Body}
+use Rattle.wasm_grammar.specs.Modules.{Placed}
 use Rattle.wasm_body_grammar.specs.Rules.{Around}
 use Rattle.wasm_grammar_bytes.specs.Bodies.{runs_bytes as due_bytes}
 use Rattle.wasm_grammar_bytes.specs.Maximal.{maximal_of}
@@ -32,17 +32,17 @@ use Rattle.walrus_body_writer.specs.Spelled.{Text, AreWritten}
 use Rattle.walrus_local_function.specs.declared.local_function.LocalFunction.{LocalFunction}
 use Rattle.walrus_local_numbers.specs.Declared.{declared, local_ids as declared_ids, with_numbers as numbers_with}
 use Rattle.walrus_local_numbers.specs.Laws.{ArgumentsFirst, OthersFollow}
-use Rattle.walrus_local_numbers.specs.Written.{Run, WrittenRun, runs_bytes, written_runs}
+use Rattle.walrus_local_numbers.specs.Written.{WrittenRun, runs_bytes, written_runs}
 use Rattle.walrus_meaning.specs.Bodies.{depth_of, local_ids, own_body, own_operators, used_locals}
 use Rattle.walrus_body_laws.specs.EmissionLaws.{BodiesAreMeant, LocalsAreMeant}
 use Rattle.walrus_body_laws.specs.WritingLaws.{BytesAgree}
 use Rattle.walrus_emit_parts.specs.Due.{Due, lacking, limited, written}
 use Rattle.walrus_emit_code.specs.Code.{contents, declarations, local_count, operators_due, or_lacking, runs_due, with_locals}
-use Rattle.walrus_due_laws.specs.Spelled.{Follows, SpelledAs}
+use Rattle.walrus_due_laws.specs.Spelled.{SpelledAs}
 use Rattle.walrus_due_laws.proofs.Parts.{both, lacks, plain, turned, within}
 use Rattle.walrus_code_laws.specs.Bodies.{BodiesAreSpelled, IsKnown}
 use Rattle.walrus_code_laws.specs.Numbered.{numbered_body}
-use Rattle.walrus_code_laws.specs.Spelled.{HavePlaces, ServesBodies, items_of}
+use Rattle.walrus_code_laws.specs.Spelled.{HavePlaces, ServesBodies}
 use Rattle.walrus_code_laws.proofs.Places.{places}
 use Rattle.walrus_code_laws.proofs.Runs.{runs_same}
 use Rattle.walrus_code_laws.proofs.Texts.{are_written, lacking_not, numbers_in, operators_as, parts, sends_numbers}

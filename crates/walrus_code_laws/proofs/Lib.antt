@@ -3,3 +3,5 @@ mod Places
 pub mod Texts
 pub mod Bodies
 pub mod Spellings
+mod Parts
+mod Emissions

@@ -35,7 +35,7 @@ use Rattle.walrus_meaning.specs.Bodies.{depth_of, local_ids, own_body}
 use Rattle.walrus_body_laws.specs.EmissionLaws.{LocalsAreMeant}
 use Rattle.walrus_emit_numbers.specs.declared.facts.BodyFacts.{BodyFacts}
 use Rattle.walrus_emit_parts.specs.Due.{Due, number, section, sized, written}
-use Rattle.walrus_emit_code.specs.Code.{bodies_due, body_due, body_numbers, code, contents, kind_due, kind_numbers, slot_due, slot_numbers, with_locals}
+use Rattle.walrus_emit_code.specs.Code.{bodies_due, body_due, body_numbers, contents, kind_due, kind_numbers, slot_due, slot_numbers, with_locals}
 use Rattle.walrus_due_laws.specs.Spelled.{SpelledAs, spelled}
 use Rattle.walrus_due_laws.proofs.Parts.{alone, both, plain, section_as, sized_as}
 use Rattle.walrus_code_laws.specs.Bodies.{BodiesAreSpelled, IsKnown}
@@ -75,7 +75,7 @@ module _ (spelling : BodiesAreSpelled) (first : ArgumentsFirst) (others : Others
     slot_as : KnowsBody locals functions facts → BodiesHavePlaces locals functions i → (o : Option Function) → item_at functions facts.function ≡ o
         → IsSpelled (slot_due locals functions i facts o) (own_bytes a (option_map (renumbered_function r brings) (option_map (numbered_function locals) o)))
     slot_as knows stand None is bytes e = absurd (lacking_not (DeadReference FunctionSpace) bytes e)
-    slot_as knows stand (Some f) is = kind_as f.kind (λ local has. knows f local is has) (λ local has. stand facts.function f local is has)
+    slot_as knows stand (Some f) is bytes e = kind_as f.kind (λ local has. knows f local is has) (λ local has. stand facts.function f local is has) bytes e
 
     -- ---- the numbers behind it
 
@@ -171,11 +171,11 @@ section_by features due n [] h bytes e =
     let s = parts (number (suc n)) due inner q.1 in
     let none : 0 ≡ suc n = (h (drop (length (number (suc n))) inner) s.1).1 in
     absurd (omega (arith, none))
-section_by features due n (b ∷ bodies) h =
+section_by features due n (b ∷ bodies) h bytes e =
     let all = number (suc n) ++ due in
     let list = b ∷ bodies in
     alone (section 10 all) (10 ∷ sized_bytes (listed list)) (entry_bytes features nothing_yet (entry (CodeSection (code_due list)))) refl
-    (section_as 10 all (listed list) (list_as due (suc n) list h))
+    (section_as 10 all (listed list) (list_as due (suc n) list h)) bytes e
 
 pub code_spelled : BodiesAreSpelled → ArgumentsFirst → OthersFollow → LocalsAreMeant → CodeIsSpelled
 code_spelled spelling first others meant features a r brings i serves locals functions stand [] known = plain []

@@ -27,7 +27,7 @@ use Rattle.walrus_local_function.specs.declared.local_function.LocalFunction.{Lo
 use Rattle.walrus_meaning.specs.Bodies.{own_operators}
 use Rattle.walrus_body_laws.specs.EmissionLaws.{BodiesAreMeant, sent}
 use Rattle.walrus_body_laws.specs.Renaming.{KeepsLabels}
-use Rattle.walrus_body_laws.specs.WritingLaws.{BytesAgree, text_ops}
+use Rattle.walrus_body_laws.specs.WritingLaws.{BytesAgree}
 use Rattle.walrus_emit_parts.specs.Due.{Due, lacking, written}
 use Rattle.walrus_emit_parts.proofs.Lemmas.{written_both}
 use Rattle.walrus_emit_code.specs.Code.{operator_due, or_lacking, text_due}

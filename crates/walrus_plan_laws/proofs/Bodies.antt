@@ -18,15 +18,18 @@ use Rattle.walrus_module_items.specs.Imported.{function_import}
 use Rattle.walrus_module_items.specs.declared.function.Function.{Function}
 use Rattle.walrus_module_items.specs.declared.function.FunctionKind.{FunctionKind}
 use Rattle.walrus_module_items.specs.declared.function.FunctionKind.TheVariants as functions
+use Rattle.walrus_body_names.specs.walrus_body_writer.walrus_tree.walrus_builder.Functions.{seqs_of}
+use Rattle.walrus_body_names.specs.walrus_tree.Text.{operators}
 use Rattle.walrus_local_function.specs.declared.local_function.LocalFunction.{LocalFunction}
-use Rattle.walrus_linked.specs.Linked.{IsLinked, IsWhole}
+use Rattle.walrus_linked.specs.Linked.{IsWhole}
 use Rattle.walrus_meaning.specs.Meaning.{means, own_function, own_origin}
 use Rattle.walrus_meaning.specs.Bodies.{own_body}
 use Rattle.walrus_emit_numbers.specs.declared.facts.BodyFacts.{BodyFacts}
 use Rattle.walrus_emit_numbers.specs.Facts.{AreFacts}
-use Rattle.walrus_plan_laws.specs.Emissions.{BodiesHaveSizes, SizesFit}
+use Rattle.walrus_plan_laws.specs.Emissions.{IsBound, SizesFit}
 use Rattle.walrus_plan_laws.proofs.Lists.{In, RiseFrom, in_later, rise_lower}
 use Rattle.walrus_plan_laws.proofs.Means.{filled, import_same}
+use Rattle.walrus_plan_laws.proofs.Sizes.{sizes_same}
 use Rattle.walrus_plan_laws.proofs.Slots.{slot_at}
 
 -- ---- functions with bodies, by rising id
@@ -73,12 +76,13 @@ body_at k [] id local (i, e) = absurd cc
 body_at k (None ∷ slots) id local at =
     let h = body_at (k + 1) slots id local at in
     (suc h.0, (omega (arith, h.1.0), record { function = h.1.1.function; there = h.1.1.there; kind = h.1.1.kind }))
-body_at k (Some f ∷ slots) id local at = go (one_entry k f f.kind (entries_from (k + 1) slots) id local at)
+body_at k (Some f ∷ slots) id local at = go (one_entry k f f.kind (entries_from (k + 1) slots) id local at) (λ later. body_at (k + 1) slots id local later)
   where
-    go : ((k ≡ id) × (local_of f.kind ≡ Some local)) ⊎ In (local_entries (entries_from (k + 1) slots)) (id, local) → (i : ℕ) × ((k + i ≡ id) × HasBody (Some f ∷ slots) i local)
-    go (inl h) = (zero, (omega (arith, h.0), record { function = f; there = refl; kind = is_local f.kind local h.1 }))
-    go (inr later) =
-        let h = body_at (k + 1) slots id local later in
+    go : ((k ≡ id) × (local_of f.kind ≡ Some local)) ⊎ In (local_entries (entries_from (k + 1) slots)) (id, local)
+        → (In (local_entries (entries_from (k + 1) slots)) (id, local) → (i : ℕ) × ((k + 1 + i ≡ id) × HasBody slots i local)) → (i : ℕ) × ((k + i ≡ id) × HasBody (Some f ∷ slots) i local)
+    go (inl h) rest = (zero, (omega (arith, h.0), record { function = f; there = refl; kind = is_local f.kind local h.1 }))
+    go (inr later) rest =
+        let h = rest later in
         (suc h.0, (omega (arith, h.1.0), record { function = h.1.1.function; there = h.1.1.there; kind = h.1.1.kind }))
 
 has_entry : (k : ℕ) (slots : List (Option Function)) (i id : ℕ) (f : Function) (local : LocalFunction) → k + i ≡ id → slice_index_or slots i None ≡ Some f → f.kind ≡ functions.Local local
@@ -107,7 +111,7 @@ functions_are [] (f ∷ facts) h = absurd h
 functions_are (e ∷ es) [] h = absurd h
 functions_are (e ∷ es) (f ∷ facts) h = λ at. h.0.function at ∷ functions_are es facts h.1 at
 
-zip_at : (es : List (ℕ × LocalFunction)) (facts : List BodyFacts) → AllZip AreFacts es facts → (i : ℕ) (f : BodyFacts) → slice_get facts i ≡ Some f → (e : ℕ × LocalFunction) × ((slice_get es i ≡ Some e) × AreFacts e f)
+pub zip_at : (es : List (ℕ × LocalFunction)) (facts : List BodyFacts) → AllZip AreFacts es facts → (i : ℕ) (f : BodyFacts) → slice_get facts i ≡ Some f → (e : ℕ × LocalFunction) × ((slice_get es i ≡ Some e) × AreFacts e f)
 zip_at [] [] h i f is = absurd (none-some f is)
 zip_at [] (g ∷ facts) h i f is = absurd h
 zip_at (e ∷ es) [] h i f is = absurd h
@@ -142,7 +146,7 @@ module _ (a : Module) (facts : List BodyFacts) (zip : AllZip AreFacts (local_ent
   pub told_rise : RiseFrom 0 told_ids
   told_rise = subst (λ (l : List ℕ). RiseFrom 0 l) (sym (functions_are es facts zip)) (entries_rise 0 a.funcs.slots)
 
-  in_slots_at : (id : ℕ) (local : LocalFunction) → In es (id, local) → HasBody a.funcs.slots id local
+  pub in_slots_at : (id : ℕ) (local : LocalFunction) → In es (id, local) → HasBody a.funcs.slots id local
   in_slots_at id local at =
       let h = body_at 0 a.funcs.slots id local at in
       let same : h.0 ≡ id = omega (arith, h.1.0) in
@@ -175,19 +179,19 @@ module _ (a : Module) (facts : List BodyFacts) (zip : AllZip AreFacts (local_ent
       ∙ ap (option_and_then (λ (f : Function). function_import f.kind)) h.1.there
       ∙ ap function_import h.1.kind
 
-  pub own_told : IsLinked a → (n : ℕ) (x : grammar.Function) → slice_index_or (means a).functions n None ≡ Some x → import_of (means a) Functions n ≡ None → In told_ids n
-  own_told linked n x is none =
+  pub own_told : IsBound a → (n : ℕ) (x : grammar.Function) → slice_index_or (means a).functions n None ≡ Some x → import_of (means a) Functions n ≡ None → In told_ids n
+  own_told bound n x is none =
       let h = filled (own_function a.locals) (slice_index_or a.funcs.slots n None) x (sym (slot_at (own_function a.locals) a.funcs.slots n) ∙ is) in
       let not_brought : function_import h.0.kind ≡ None = sym (ap (option_and_then (λ (f : Function). function_import f.kind)) h.1.0) ∙ sym (import_same a spaces.Function n) ∙ none in
-      by_kind h.0 h.1.0 h.0.kind refl not_brought (linked.whole n h.0 h.1.0)
+      by_kind h.0 h.1.0 h.0.kind refl not_brought (bound.whole n h.0 h.1.0)
     where
       by_kind : (f : Function) → slice_index_or a.funcs.slots n None ≡ Some f → (kind : FunctionKind) → f.kind ≡ kind → function_import kind ≡ None → IsWhole a.types kind → In told_ids n
       by_kind f there (functions.Import imported) e not_brought whole = absurd (none-some imported.import (sym not_brought))
       by_kind f there (functions.Local local) e not_brought whole = body_told n f local there e
       by_kind f there (functions.Uninitialized ty) e not_brought whole = absurd whole
 
-  pub told_sizes : BodiesHaveSizes a → (at : ℕ) → at < length facts → size_of (means a) (slice_index told_ids at) ≡ slice_index (map (λ (f : BodyFacts). f.size) facts) at
-  told_sizes sizes at lt =
+  pub told_sizes : (at : ℕ) → at < length facts → size_of (means a) (slice_index told_ids at) ≡ slice_index (map (λ (f : BodyFacts). f.size) facts) at
+  told_sizes at lt =
       let b = there_at facts at lt in
       let h = zip_at es facts zip at b.0 b.1 in
       let id : slice_index told_ids at ≡ h.0.0 =
@@ -198,7 +202,7 @@ module _ (a : Module) (facts : List BodyFacts) (zip : AllZip AreFacts (local_ent
       ap (size_of (means a)) id
       ∙ ap slot_size (meant_at h.0.0 body.function body.there)
       ∙ ap (λ (kind : FunctionKind). origin_size (own_origin a.locals kind)) body.kind
-      ∙ sym (sizes h.0.0 body.function h.0.1 body.there body.kind)
+      ∙ sym (sizes_same (seqs_of h.0.1.builder) (operators (seqs_of h.0.1.builder) 0))
       ∙ sym h.1.1.size
       ∙ sym size
 

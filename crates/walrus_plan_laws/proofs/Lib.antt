@@ -7,5 +7,9 @@ mod Spaces
 mod Owns
 mod Counts
 mod Orders
+mod Sizes
 mod Bodies
 mod Plans
+mod Fits
+mod Written
+mod Behind

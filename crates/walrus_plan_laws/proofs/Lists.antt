@@ -1,11 +1,8 @@
 -- Lemmas: lists without repetitions, and what is in them.
-use Rattle.std.specs.Prelude.{ℕ, zero, suc, ◌+◌, ◌<◌, ◌≤◌, ◌≡◌, ◌⊎◌, Bool, true, false, not, cond, is_some, List, [], ◌∷◌, ◌++◌, length, map, filter, fold, Contains, Option, Some, None, slice_get, slice_index, slice_index_or, IsSome, refl, if◌then◌else◌}
+use Rattle.std.specs.Prelude.{ℕ, zero, suc, ◌+◌, ◌≤◌, ◌≡◌, ◌⊎◌, Bool, true, false, cond, List, [], ◌∷◌, ◌++◌, length, filter, Contains, Option, Some, None, slice_get, refl}
 use Rattle.std.specs.List.{AllByRecursion, cons_option, filter_map}
-use Rattle.std.specs.Option.{option_map}
 use Rattle.std.proofs.Common.{ap, sym, ◌∙◌, subst, arith, inl, inr}
-use Rattle.std.proofs.lemmas.Bool.{cases_Bool}
-use Rattle.std.proofs.lemmas.Option.{none-some, same_Some, slice_get_read, slice_get_within}
-use Rattle.walrus_arena.specs.Arena.{entries_from}
+use Rattle.std.proofs.lemmas.Option.{none-some, same_Some, slice_get_read}
 use Rattle.wasm_part.specs.Closed.{Rise}
 
 -- somewhere in the list
@@ -132,14 +129,14 @@ pub apart_given : (F : ℕ → Option ℕ) (ks : List ℕ) → Apart ks → ((i 
 apart_given F [] h one = tt
 apart_given F (k ∷ ks) h one = apart_one F k ks h.0 one (apart_given F ks h.1 one) (F k) refl
 
-pub in_given : (F : ℕ → Option ℕ) (ks : List ℕ) (k n : ℕ) → In ks k → F k ≡ Some n → In (filter_map F ks) n
-in_given F [] k n (i, e) is = absurd (none-some k e)
-in_given F (j ∷ ks) k n (zero, e) is = subst (λ (o : Option ℕ). In (cons_option o (filter_map F ks)) n) (sym (ap F (same_Some j k e) ∙ is)) (zero, refl)
-in_given F (j ∷ ks) k n (suc i, e) is = past (F j) (in_given F ks k n (i, e) is)
+pub in_given : {A : Type 0} (F : ℕ → Option A) (ks : List ℕ) (k : ℕ) (x : A) → In ks k → F k ≡ Some x → In (filter_map F ks) x
+in_given F [] k x (i, e) is = absurd (none-some k e)
+in_given {A} F (j ∷ ks) k x (zero, e) is = subst (λ (o : Option A). In (cons_option o (filter_map F ks)) x) (sym (ap F (same_Some j k e) ∙ is)) (zero, refl)
+in_given {A} F (j ∷ ks) k x (suc i, e) is = past (F j) (in_given F ks k x (i, e) is)
   where
-    past : (o : Option ℕ) → In (filter_map F ks) n → In (cons_option o (filter_map F ks)) n
+    past : (o : Option A) → In (filter_map F ks) x → In (cons_option o (filter_map F ks)) x
     past None h = h
-    past (Some m) h = in_later m n (filter_map F ks) h
+    past (Some y) h = in_later y x (filter_map F ks) h
 
 -- ---- they rise
 

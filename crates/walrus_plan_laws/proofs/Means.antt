@@ -1,12 +1,12 @@
--- Lemmas: what a linked module means links, and which items imports bring.
-use Rattle.std.specs.Prelude.{ℕ, zero, suc, ◌≡◌, ◌⊎◌, Bool, true, false, not, is_none, is_some, List, [], ◌∷◌, ◌++◌, map, filter, Option, Some, None, slice_get, slice_index_or, IsSome, refl, if◌then◌else◌}
-use Rattle.std.specs.List.{AllByRecursion, cons_option, filter_map}
+-- Lemmas: what a module means links, and which items imports bring.
+use Rattle.std.specs.Prelude.{ℕ, zero, suc, ◌≡◌, Bool, true, false, List, [], ◌∷◌, map, Option, Some, None, slice_index_or, refl, if◌then◌else◌}
+use Rattle.std.specs.List.{cons_option, filter_map}
 use Rattle.std.specs.Option.{option_and_then, option_map}
-use Rattle.std.proofs.Common.{ap, sym, ◌∙◌, subst, inl, inr}
+use Rattle.std.proofs.Common.{ap, sym, ◌∙◌, subst}
 use Rattle.std.proofs.lemmas.Option.{cond_some, none-some, same_Some}
 use Rattle.wasm_formats.specs.declared.fault.Space.{Space as FileSpace}
 use Rattle.wasm_formats.specs.declared.fault.Space.TheVariants as spaces
-use Rattle.wasm_operators.specs.Items.{Space, Types, Functions, Tables, Memories, Tags, Globals, ElementSegments, DataSegments, Locals, Labels}
+use Rattle.wasm_operators.specs.Items.{Space, Functions, Tables, Memories, Tags, Globals}
 use Rattle.wasm_grammar.specs.Modules as grammar
 use Rattle.wasm_body_grammar.specs.Rules.{space_of}
 use Rattle.wasm_import_links.specs.Links.{ImportsLink, function_brought, global_brought, memory_brought, origin_import, slot_import, table_brought, tag_brought, brought as brings_of}
@@ -32,10 +32,10 @@ use Rattle.walrus_item_meaning.specs.Meaning.{own_brought, own_global, own_impor
 use Rattle.walrus_meaning.specs.Meaning.{means, own_function, own_origin}
 use Rattle.walrus_roots.specs.declared.item.Item.{Item}
 use Rattle.walrus_roots.specs.Items.{item}
-use Rattle.walrus_linked.specs.Linked.{IsLinked}
+use Rattle.walrus_plan_laws.specs.Emissions.{IsBound}
 use Rattle.walrus_plan_laws.specs.Plans.{living}
 use Rattle.walrus_plan_laws.proofs.Lists.{Apart, In, apart_given, given_in, in_given, rise_apart}
-use Rattle.walrus_plan_laws.proofs.Slots.{has_living, living_has, living_rises, slot_at}
+use Rattle.walrus_plan_laws.proofs.Slots.{living_has, living_rises, slot_at}
 
 -- ---- the import that an item says brings it
 
@@ -84,7 +84,7 @@ pub filled : {A B : Type 0} (see : A → B) (o : Option A) (y : B) → option_ma
 filled see None y e = absurd (none-some y e)
 filled see (Some x) y e = (x, (refl, same_Some (see x) y e))
 
-module _ (a : Module) (linked : IsLinked a) where
+module _ (a : Module) (bound : IsBound a) where
   import_there : (i : ℕ) (x : grammar.Import) → slice_index_or (means a).imports i None ≡ Some x → (import : Import) × ((slice_index_or a.imports.slots i None ≡ Some import) × (own_import import ≡ x))
   import_there i x e = filled own_import (slice_index_or a.imports.slots i None) x (sym (slot_at own_import a.imports.slots i) ∙ e)
 
@@ -93,12 +93,12 @@ module _ (a : Module) (linked : IsLinked a) where
     named = λ i x e.
         let h = import_there i x e in
         let kind = h.0.kind in
-        let named : import_in a (brought kind).space (brought kind).id ≡ Some i = linked.imports i h.0 h.1.0 in
+        let named : import_in a (brought kind).space (brought kind).id ≡ Some i = bound.imports i h.0 h.1.0 in
         let at : slice_index_or (brings_of (means a) (own_brought kind).space) (own_brought kind).number None ≡ Some i =
         ap (λ (y : grammar.Item). slice_index_or (brings_of (means a) y.space) y.number None) (brought_is kind) ∙ import_same a (brought kind).space (brought kind).id ∙ named in
         subst (λ (y : grammar.Import). slice_index_or (brings_of (means a) y.item.space) y.item.number None ≡ Some i) h.1.1 at;
     told = λ space n i e.
-        let h = linked.imported (item space n) i (sym (import_same a space n) ∙ e) in (
+        let h = bound.imported (item space n) i (sym (import_same a space n) ∙ e) in (
           own_import h.0,
           slot_at own_import a.imports.slots i ∙ ap (option_map own_import) h.1,
           brought_is h.0.kind ∙ ap seen_item h.2,

@@ -1,7 +1,6 @@
 -- Lemmas: functions with bodies, in the order in which emission writes them.
-use Rattle.std.specs.Prelude.{ℕ, zero, suc, ◌+◌, ◌-◌, ◌<◌, ◌≤◌, ◌^◌, ◌≡◌, ◌⊎◌, ◌==◌, Bool, true, false, cond, List, [], ◌∷◌, ◌++◌, length, map, Contains, Option, Some, None, slice_get, slice_index, slice_index_or, refl}
-use Rattle.std.specs.List.{AllByRecursion, AllZip}
-use Rattle.std.specs.List.Sorted.{IsPermutation, IsSorted}
+use Rattle.std.specs.Prelude.{ℕ, zero, suc, ◌+◌, ◌-◌, ◌<◌, ◌≤◌, ◌^◌, ◌≡◌, ◌⊎◌, ◌==◌, Bool, true, false, cond, List, [], ◌∷◌, length, map, Some, slice_get, slice_index, slice_index_or, refl}
+use Rattle.std.specs.List.Sorted.{IsPermutation}
 use Rattle.std.specs.Option.{option_map}
 use Rattle.std.specs.Ordering.{is_lt, nat_cmp, ordering_then}
 use Rattle.std.specs.declared.cmp.Ordering.{Ordering}
@@ -15,7 +14,7 @@ use Rattle.walrus_emit_numbers.specs.declared.facts.BodyFacts.{BodyFacts}
 use Rattle.walrus_emit_numbers.specs.Numbers.{functions_at}
 use Rattle.walrus_emit_numbers.specs.Order.{IsOrder, key_at, key_cmp}
 use Rattle.walrus_plan_laws.proofs.Counts.{moved_apart}
-use Rattle.walrus_plan_laws.proofs.Lists.{Apart, In, RiseFrom, apart_once, contains_at, in_contains}
+use Rattle.walrus_plan_laws.proofs.Lists.{Apart, In, RiseFrom, apart_once, contains_at, in_contains, in_later}
 
 -- ---- positions
 
@@ -31,6 +30,13 @@ in_run : (k n p : ℕ) → In (run_from k n) p → p < k + n
 in_run k zero p (i, e) = absurd (none-some p e)
 in_run k (suc n) p (zero, e) = let same : k ≡ p = same_Some k p e in omega (arith, same)
 in_run k (suc n) p (suc i, e) = let rest = in_run (suc k) n p (i, e) in omega (arith, rest)
+
+run_has : (k n p : ℕ) → k ≤ p → p < k + n → In (run_from k n) p
+run_has k zero p le lt = absurd (omega (arith, le, lt))
+run_has k (suc n) p le lt = elim (cases_eq k p) as (λ _. In (run_from k (suc n)) p) [
+  | inl e ↦ (zero, ap (λ (j : ℕ). Some j) e)
+  | inr differs ↦ in_later k p (run_from (suc k) n) (run_has (suc k) n p (omega (arith, le, differs)) (omega (arith, lt)))
+]
 
 length_mapped : {A : Type 0} (f : A → ℕ) (xs : List A) → length (map f xs) ≡ length xs
 length_mapped f [] = refl
@@ -126,6 +132,9 @@ module _ (facts : List BodyFacts) (order : List ℕ) (is : IsOrder facts order) 
 
   pub ordered_in : (n : ℕ) → In ordered n → In ids n
   ordered_in n at = contains_in ordered ids n (IsPermutation-sym ids ordered moved) at
+
+  pub in_order : (p : ℕ) → p < length facts → In order p
+  in_order p lt = contains_in (run_from 0 (length facts)) order p is.all (run_has 0 (length facts) p (omega arith) (omega (arith, lt)))
 
   within : (p : ℕ) → In order p → p < length facts
   within p at =

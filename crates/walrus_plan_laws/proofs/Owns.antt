@@ -1,15 +1,14 @@
 -- Lemmas: the folds over items that give the module's own their numbers are folds over the ids of those.
-use Rattle.std.specs.Prelude.{ℕ, zero, suc, ◌+◌, ◌≡◌, Bool, true, false, not, is_none, is_some, List, [], ◌∷◌, ◌++◌, map, filter, fold, Option, Some, None, slice_index_or, refl, if◌then◌else◌}
+use Rattle.std.specs.Prelude.{ℕ, suc, ◌+◌, ◌≡◌, is_none, is_some, List, [], ◌∷◌, map, filter, fold, Option, Some, None, slice_index_or, refl, if◌then◌else◌}
 use Rattle.std.specs.List.{filter_map}
 use Rattle.std.specs.Option.{option_and_then, option_map}
-use Rattle.std.proofs.Common.{ap, sym, ◌∙◌, subst, arith}
+use Rattle.std.proofs.Common.{ap, sym, ◌∙◌, arith}
 use Rattle.wasm_operators.specs.Items.{Space, Tables, Memories, Tags, Globals}
 use Rattle.wasm_formats.specs.declared.fault.Space.TheVariants as spaces
 use Rattle.wasm_grammar.specs.Modules as grammar
 use Rattle.wasm_part.specs.Order.{brought_by, brought_to, import_of}
 use Rattle.walrus_arena.specs.Arena.{Arena, entries_from, item_at}
 use Rattle.walrus_index_maps.specs.Maps.{Indices}
-use Rattle.walrus_module.specs.Linking.{import_in}
 use Rattle.walrus_module.specs.Parts.{Module}
 use Rattle.walrus_module_items.specs.Imported.{global_import, tag_import}
 use Rattle.walrus_module_items.specs.declared.data.Data.{Data}

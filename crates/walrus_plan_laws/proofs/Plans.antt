@@ -1,11 +1,10 @@
 -- Lemmas: emission's numbers are those of its plan.
-use Rattle.std.specs.Prelude.{ℕ, zero, suc, ◌+◌, ◌<◌, ◌≡◌, ◌⊎◌, ◌==◌, Bool, List, [], ◌∷◌, ◌++◌, map, fold, Contains, Option, Some, None, IsSome, slice_get, slice_index_or, refl, if◌then◌else◌}
+use Rattle.std.specs.Prelude.{ℕ, zero, suc, ◌+◌, ◌<◌, ◌≡◌, Bool, List, [], ◌∷◌, ◌++◌, map, fold, Contains, Option, Some, None, IsSome, slice_get, slice_index_or, refl, if◌then◌else◌}
 use Rattle.std.specs.List.{AllByRecursion}
 use Rattle.std.specs.Option.{unwrap_or}
-use Rattle.std.proofs.Common.{ap, sym, ◌∙◌, subst, arith, append-nil, inl, inr}
-use Rattle.std.proofs.lemmas.Bool.{cases_eq, eq-eqb, ne_eqb}
+use Rattle.std.proofs.Common.{ap, sym, ◌∙◌, subst, arith, append-nil}
+use Rattle.std.proofs.lemmas.Bool.{eq-eqb, ne_eqb}
 use Rattle.std.proofs.lemmas.Option.{none-some, same_Some}
-use Rattle.wasm_formats.specs.declared.fault.Space.TheVariants as spaces
 use Rattle.wasm_operators.specs.Items.{Space, Types, Functions, Tables, Memories, Tags, Globals, ElementSegments, DataSegments, Locals, Labels}
 use Rattle.wasm_grammar.specs.Modules as grammar
 use Rattle.wasm_import_links.specs.Links.{ImportsLink, slot_import, table_brought}
@@ -13,7 +12,6 @@ use Rattle.wasm_canonical.specs.Dense.{IsOwnFunction}
 use Rattle.wasm_part.specs.Closed.{IsListed}
 use Rattle.wasm_part.specs.Order.{InOrder, OwnBefore, brought_by, import_of, size_of}
 use Rattle.wasm_part.specs.Part.{Plan}
-use Rattle.walrus_arena.specs.Arena.{entries_from}
 use Rattle.walrus_index_maps.specs.Maps.{Indices, Numbering, no_indices, unnumbered}
 use Rattle.walrus_pairing.specs.Looks.{number_of}
 use Rattle.walrus_forms.specs.Renaming.{index_at}
@@ -23,17 +21,16 @@ use Rattle.walrus_module.specs.declared.module.Module.{Module}
 use Rattle.walrus_module.specs.Parts.{parts, Module as Parts}
 use Rattle.walrus_module.specs.walrus_collections.LookUps.{items}
 use Rattle.walrus_module_items.specs.declared.data.Data.{Data}
-use Rattle.walrus_module_items.specs.declared.import.Import.{Import}
 use Rattle.walrus_meaning.specs.Meaning.{means}
 use Rattle.walrus_emit_numbers.specs.declared.facts.BodyFacts.{BodyFacts}
-use Rattle.walrus_emit_numbers.specs.Numbers.{data_from, element_numbered, function_in_turn, functions_at, import_in_turn, memory_in_turn, numbers_of, table_in_turn, tag_in_turn, global_in_turn, element_in_turn, type_in_turn, own_global, own_memory, own_table, own_tag}
+use Rattle.walrus_emit_numbers.specs.Numbers.{data_from, element_numbered, function_in_turn, functions_at, import_in_turn, memory_in_turn, numbers_of, table_in_turn, tag_in_turn, global_in_turn, type_in_turn, own_global, own_memory, own_tag}
 use Rattle.walrus_due_laws.specs.Listed.{LivingAreListed}
 use Rattle.walrus_due_laws.specs.Spelled.{Follows}
 use Rattle.walrus_plan_laws.specs.Plans.{living, new_numbers, own_in, own_of, place_in, plan_of}
 use Rattle.walrus_plan_laws.specs.Emissions.{EmissionsHavePlans, IsReady}
 use Rattle.walrus_plan_laws.proofs.Bodies.{own_told, told_fit, told_import, told_own, told_rise, told_sizes}
-use Rattle.walrus_plan_laws.proofs.Lists.{Apart, In, RiseFrom, all_in, apart_told, contains_at, rise_apart, rises}
-use Rattle.walrus_plan_laws.proofs.Means.{IsBrought, links, none_brought}
+use Rattle.walrus_plan_laws.proofs.Lists.{Apart, In, all_in, apart_told, contains_at, rise_apart, rises}
+use Rattle.walrus_plan_laws.proofs.Means.{links, none_brought}
 use Rattle.walrus_plan_laws.proofs.Orders.{functions_ordered, in_ordered, ordered_apart, ordered_in}
 use Rattle.walrus_plan_laws.proofs.Owns.{elements_own, globals_own, imports_bring, memories_own, segments_own, tables_own, tags_own}
 use Rattle.walrus_plan_laws.proofs.Slots.{has_living, living_has, living_rises}
@@ -58,7 +55,7 @@ place_is (m ∷ ns) h (suc i) n e =
 slot_filled : {A : Type 0} (brings : A → Option ℕ) (xs : List (Option A)) (n k : ℕ) → slice_index_or (map (slot_import brings) xs) n None ≡ Some k → IsSome (live_at xs n)
 slot_filled brings [] n k e = absurd (none-some k e)
 slot_filled brings (None ∷ xs) zero k e = absurd (none-some k e)
-slot_filled brings (Some x ∷ xs) zero k e = tt
+slot_filled brings (Some x ∷ xs) zero k e = refl
 slot_filled brings (x ∷ xs) (suc n) k e = slot_filled brings xs n k e
 
 module _ {B : Type 0} (input : Module B) (facts : List BodyFacts) (order : List ℕ) (emitted : EmittedTypes) (ready : IsReady input facts order emitted) where
@@ -93,7 +90,7 @@ module _ {B : Type 0} (input : Module B) (facts : List BodyFacts) (order : List 
   element_ids = living m.elements
 
   link : ImportsLink m
-  link = links a ready.linked
+  link = links a ready.bound
 
   -- ---- emission's numbers are given one by one
 
@@ -135,7 +132,7 @@ module _ {B : Type 0} (input : Module B) (facts : List BodyFacts) (order : List 
   functions_have : (n : ℕ) (f : grammar.Function) → slice_index_or m.functions n None ≡ Some f → In (brings Functions ++ functions) n
   functions_have n f is =
       in_joined m link Functions refl functions own_functions n
-      (λ none. in_ordered facts order ready.sorted n (own_told a facts ready.known ready.linked n f is none))
+      (λ none. in_ordered facts order ready.sorted n (own_told a facts ready.known ready.bound n f is none))
 
   -- ---- the numbers of each space
 
@@ -233,7 +230,7 @@ module _ {B : Type 0} (input : Module B) (facts : List BodyFacts) (order : List 
   ordered_is : (space : Space) → IsListed space → (i j k n : ℕ) → i < j → slice_get (own_in m functions space) i ≡ Some k → slice_get (own_in m functions space) j ≡ Some n → OwnBefore m space k n
   ordered_is Types h i j k n lt e f = absurd h
   ordered_is Functions h i j k n lt e f =
-      functions_ordered facts order ready.sorted (size_of m) (told_sizes a facts ready.known ready.sizes) (told_fit a facts ready.known ready.fit) 0 (told_rise a facts ready.known) i j k n lt e f
+      functions_ordered facts order ready.sorted (size_of m) (told_sizes a facts ready.known) (told_fit a facts ready.known ready.fit) 0 (told_rise a facts ready.known) i j k n lt e f
   ordered_is Tables h i j k n lt e f = rises 0 table_ids (own_rises m link Tables refl m.tables) i j k n lt e f
   ordered_is Memories h i j k n lt e f = rises 0 memory_ids (own_rises m link Memories refl m.memories) i j k n lt e f
   ordered_is Tags h i j k n lt e f = rises 0 tag_ids (own_rises m link Tags refl m.tags) i j k n lt e f
@@ -300,8 +297,8 @@ module _ {B : Type 0} (input : Module B) (facts : List BodyFacts) (order : List 
       ap (λ (o : Option ℕ). unwrap_or o 0)
       (same_option (numbers.types.number id) (slice_index_or emitted.indices id None) (λ n e. (ready.types n id).0 (types_numbered.told id n e)) (λ n e. types_numbered.has id n ((ready.types n id).1 e)))
 
-pub emissions_have_plans : (B : Type 0) → EmissionsHavePlans B
-emissions_have_plans B input facts order emitted ready = record {
+pub emissions_have_plans : {B : Type 0} → EmissionsHavePlans B
+emissions_have_plans input facts order emitted ready = record {
   serves = record {
     follows = names_follow input facts order emitted ready;
     numbered = tables_live input facts order emitted ready;

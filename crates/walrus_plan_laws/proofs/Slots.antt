@@ -1,8 +1,8 @@
 -- Lemmas: slots, the numbers of those that are filled, and a fold over what is in them.
-use Rattle.std.specs.Prelude.{ℕ, zero, suc, ◌+◌, ◌≤◌, ◌≡◌, Bool, true, false, not, cond, is_none, is_some, List, [], ◌∷◌, ◌++◌, length, map, filter, fold, Option, Some, None, slice_get, slice_index_or, IsSome, refl, if◌then◌else◌}
+use Rattle.std.specs.Prelude.{ℕ, zero, suc, ◌+◌, ◌≡◌, Bool, true, false, cond, List, [], ◌∷◌, map, filter, fold, Option, Some, None, slice_index_or, refl, if◌then◌else◌}
 use Rattle.std.specs.List.{cons_option, filter_map}
 use Rattle.std.specs.Option.{option_map}
-use Rattle.std.proofs.Common.{ap, sym, ◌∙◌, subst, arith}
+use Rattle.std.proofs.Common.{ap, ◌∙◌, subst, arith}
 use Rattle.std.proofs.lemmas.Option.{none-some, same_Some}
 use Rattle.walrus_arena.specs.Arena.{entries_from}
 use Rattle.walrus_plan_laws.specs.Plans.{living}

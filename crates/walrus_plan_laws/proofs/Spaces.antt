@@ -1,9 +1,9 @@
 -- Lemmas: a space whose items imports bring, and then the module's own.
-use Rattle.std.specs.Prelude.{ℕ, zero, suc, ◌≡◌, ◌⊎◌, Bool, true, false, not, is_none, is_some, List, [], ◌∷◌, ◌++◌, filter, Option, Some, None, slice_get, slice_index_or, IsSome, refl}
+use Rattle.std.specs.Prelude.{ℕ, ◌≡◌, ◌⊎◌, true, is_none, List, ◌++◌, Option, Some, None, slice_get, slice_index_or, IsSome, refl}
 use Rattle.std.specs.List.{AllByRecursion}
 use Rattle.std.specs.Option.{unwrap_or}
 use Rattle.std.proofs.Common.{ap, sym, ◌∙◌, subst, inl, inr, true≢false}
-use Rattle.std.proofs.lemmas.Option.{none-some, same_Some}
+use Rattle.std.proofs.lemmas.Option.{none-some}
 use Rattle.wasm_operators.specs.Items.{Space}
 use Rattle.wasm_grammar.specs.Modules.{Module}
 use Rattle.wasm_import_links.specs.Links.{ImportsLink}
@@ -20,7 +20,7 @@ none_of None e = refl
 none_of (Some x) e = absurd (true≢false (sym e))
 
 pub is_filled : {A : Type 0} (o : Option A) (x : A) → o ≡ Some x → IsSome o
-is_filled o x e = subst IsSome (sym e) tt
+is_filled o x e = subst IsSome (sym e) refl
 
 -- an id stands at its number
 pub at_number : (ids : List ℕ) (number : ℕ → Option ℕ) → AreNumbers ids number → (n : ℕ) → In ids n → slice_get ids (unwrap_or (number n) 0) ≡ Some n

@@ -1,10 +1,9 @@
 -- Lemmas: of each space the numbers that emission gives are those of its ids in turn.
-use Rattle.std.specs.Prelude.{ℕ, zero, suc, ◌+◌, ◌≡◌, List, [], ◌∷◌, ◌++◌, length, map, fold, Option, Some, None, refl, if◌then◌else◌}
+use Rattle.std.specs.Prelude.{ℕ, ◌+◌, ◌≡◌, List, [], ◌∷◌, ◌++◌, length, map, fold, Some, None, refl, if◌then◌else◌}
 use Rattle.std.proofs.Common.{ap, sym, ◌∙◌, subst, arith, append_assoc, append-nil}
 use Rattle.std.proofs.lemmas.List.{length_push}
 use Rattle.std.proofs.lemmas.List.Sums.{fold-append}
 use Rattle.walrus_index_maps.specs.Maps.{Indices, Numbering, no_indices, unnumbered, numbered}
-use Rattle.walrus_pairing.specs.Looks.{number_of}
 use Rattle.walrus_module_items.specs.declared.data.Data.{Data}
 use Rattle.walrus_module_items.specs.declared.import.Import.{Import}
 use Rattle.walrus_module_items.specs.declared.import.ImportKind.{ImportKind}
@@ -13,7 +12,7 @@ use Rattle.walrus_item_meaning.specs.Meaning.{own_brought, own_import}
 use Rattle.wasm_operators.specs.Items.{Space, Types, Functions, Tables, Memories, Tags, Globals, ElementSegments, DataSegments, Locals, Labels}
 use Rattle.wasm_part.specs.Order.{brought_to, is_to}
 use Rattle.walrus_emit_numbers.specs.Numbers.{brought, data_from, element_in_turn, function_in_turn, global_in_turn, import_in_turn, memory_in_turn, table_in_turn, tag_in_turn, type_in_turn}
-use Rattle.walrus_plan_laws.proofs.Lists.{Apart, In, apart_middle}
+use Rattle.walrus_plan_laws.proofs.Lists.{Apart, apart_middle}
 use Rattle.walrus_plan_laws.proofs.Slots.{given_if}
 use Rattle.walrus_plan_laws.proofs.Turns.{AreNumbers, no_numbers, one_more, turn}
 

@@ -2,32 +2,28 @@
 use Rattle.std.specs.Prelude.{ℕ, ◌≡◌, ◌<◌, ◌^◌, List, Some}
 use Rattle.std.specs.List.{AllByRecursion, AllZip}
 use Rattle.wasm_operators.specs.Items.{Types, Functions}
-use Rattle.wasm_normal_form.specs.Normal.{size}
-use Rattle.wasm_ruled_normal.specs.Normal.{text_of}
 use Rattle.walrus_arena.specs.Arena.{entries, item_at}
 use Rattle.walrus_pairing.specs.Looks.{number_of}
 use Rattle.walrus_forms.specs.Renaming.{index_at}
 use Rattle.walrus_types.specs.Inverse.{AreInverse}
 use Rattle.walrus_types.specs.declared.emit.EmittedTypes.{EmittedTypes}
+use Rattle.walrus_module.specs.Items.{brought}
+use Rattle.walrus_module.specs.Linking.{import_in}
+use Rattle.walrus_module.specs.Parts.{parts, Module as Parts}
 use Rattle.walrus_module.specs.declared.module.Module.{Module}
 use Rattle.walrus_module.specs.walrus_collections.LookUps.{local_entries}
-use Rattle.walrus_module.specs.Parts.{parts, Module as Parts}
 use Rattle.walrus_module_items.specs.declared.data.Data.{Data}
 use Rattle.walrus_module_items.specs.declared.element.Element.{Element}
 use Rattle.walrus_module_items.specs.declared.function.Function.{Function}
-use Rattle.walrus_module_items.specs.declared.function.FunctionKind.TheVariants as functions
 use Rattle.walrus_module_items.specs.declared.global.Global.{Global}
+use Rattle.walrus_module_items.specs.declared.import.Import.{Import}
 use Rattle.walrus_module_items.specs.declared.memory.Memory.{Memory}
 use Rattle.walrus_module_items.specs.declared.table.Table.{Table}
 use Rattle.walrus_module_items.specs.declared.tag.Tag.{Tag}
-use Rattle.walrus_local_function.specs.declared.local_function.LocalFunction.{LocalFunction}
-use Rattle.walrus_body_names.specs.walrus_body_writer.walrus_body_text.Visiting.{text_size}
-use Rattle.walrus_body_names.specs.walrus_body_writer.walrus_tree.walrus_builder.Functions.{seqs_of}
-use Rattle.walrus_body_names.specs.walrus_tree.Text.{operators}
-use Rattle.walrus_linked.specs.Linked.{IsLinked}
+use Rattle.walrus_roots.specs.declared.item.Item.{Item}
+use Rattle.walrus_linked.specs.Linked.{IsWhole}
 use Rattle.walrus_linked.specs.OwnIds.{HaveOwnIds}
 use Rattle.walrus_meaning.specs.Meaning.{means}
-use Rattle.walrus_meaning.specs.Bodies.{own_operators}
 use Rattle.walrus_emit_numbers.specs.declared.facts.BodyFacts.{BodyFacts}
 use Rattle.walrus_emit_numbers.specs.Facts.{AreFacts}
 use Rattle.walrus_emit_numbers.specs.Numbers.{functions_at, numbers_of}
@@ -46,10 +42,11 @@ pub record ItemsHaveOwnIds (a : Parts) : Type 0 where
   pub elements : HaveOwnIds (λ (e : Element). e.id) a.elements
   pub segments : HaveOwnIds (λ (d : Data). d.id) a.data_segments
 
--- the size of a body's text is that of the operators that it means, as it is where each of them can be written
-abbrev pub BodiesHaveSizes : Parts → Type 0
-BodiesHaveSizes a = (id : ℕ) (f : Function) (local : LocalFunction) → item_at a.funcs id ≡ Some f → f.kind ≡ functions.Local local
-    → text_size (operators (seqs_of local.builder) 0) ≡ size (text_of (own_operators local))
+-- imports and what they bring name each other, and each function is imported or has a body: so it is of a linked module
+pub record IsBound (m : Parts) : Type 0 where
+  pub imports : (i : ℕ) (import : Import) → item_at m.imports i ≡ Some import → import_in m (brought import.kind).space (brought import.kind).id ≡ Some i
+  pub imported : (x : Item) (i : ℕ) → import_in m x.space x.id ≡ Some i → (import : Import) × (item_at m.imports i ≡ Some import) × (brought import.kind ≡ x)
+  pub whole : (f : ℕ) (function : Function) → item_at m.funcs f ≡ Some function → IsWhole m.types function.kind
 
 -- a size is a number of 64 bits
 abbrev pub SizesFit : List BodyFacts → Type 0
@@ -58,11 +55,10 @@ SizesFit facts = AllByRecursion (λ (body : BodyFacts). body.size < 2 ^ 64) fact
 -- ---- the law
 
 module _ {B : Type 0} (input : Module B) (facts : List BodyFacts) (order : List ℕ) (emitted : EmittedTypes) where
-  -- a linked module, the facts of its bodies and their order, and its types as they are written
+  -- such a module, the facts of its bodies and their order, and its types as they are written
   pub record IsReady : Type 0 where
-    pub linked : IsLinked (parts input)
+    pub bound : IsBound (parts input)
     pub ids : ItemsHaveOwnIds (parts input)
-    pub sizes : BodiesHaveSizes (parts input)
     pub known : AllZip AreFacts (local_entries (entries input.funcs)) facts
     pub fit : SizesFit facts
     pub sorted : IsOrder facts order

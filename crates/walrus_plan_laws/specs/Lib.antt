@@ -1,2 +1,4 @@
 pub mod Plans
 pub mod Emissions
+pub mod Written
+pub mod Behind

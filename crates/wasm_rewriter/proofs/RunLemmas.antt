@@ -31,9 +31,9 @@ of_input o input fault (inr l) = ap tells_of_device l.fault_is
 
 pub refused_runs : (o : Options) (source sink places : Device) (input : List ℕ) (fault : Fault)
     → IsInput source.before source.after input → IsRefused o input fault → Runs o source sink places (Err fault)
-refused_runs o source sink places input faults.ReaderFault i r = let bad : true ≡ false = of_input o input faults.ReaderFault r in cc
-refused_runs o source sink places input (faults.WriterFault n) i r = let bad : true ≡ false = of_input o input (faults.WriterFault n) r in cc
-refused_runs o source sink places input (faults.PlacesFault n) i r = let bad : true ≡ false = of_input o input (faults.PlacesFault n) r in cc
+refused_runs o source sink places input faults.ReaderFault i r = let bad : true ≡ false = of_input o input faults.ReaderFault r in absurd cc
+refused_runs o source sink places input (faults.WriterFault n) i r = let bad : true ≡ false = of_input o input (faults.WriterFault n) r in absurd cc
+refused_runs o source sink places input (faults.PlacesFault n) i r = let bad : true ≡ false = of_input o input (faults.PlacesFault n) r in absurd cc
 refused_runs o source sink places input faults.Memory i r = (input, i.at_most, i.read)
 refused_runs o source sink places input fault i r = record { input = input; is_input = i; refused = r }
 

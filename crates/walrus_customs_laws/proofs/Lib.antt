@@ -1,0 +1,11 @@
+mod Payloads
+mod Sections
+mod Listed
+mod There
+mod Items
+mod Locals
+mod Numbering
+mod Read
+mod Bound
+mod ReadLocals
+mod Kept

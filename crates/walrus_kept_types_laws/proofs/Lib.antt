@@ -1,0 +1,9 @@
+mod Lists
+mod Placed
+mod Rest
+mod Meant
+mod Written
+mod Settled
+mod Handlers
+mod Read
+mod Kept

@@ -1,0 +1,4 @@
+pub mod Placed
+pub mod Written
+pub mod Read
+pub mod Kept

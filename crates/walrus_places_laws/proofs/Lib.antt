@@ -1,0 +1,5 @@
+mod Bodies
+mod Order
+mod Part
+mod Sections
+mod Texts

@@ -1,0 +1,13 @@
+mod Customs
+mod Dense
+mod File
+mod Fitting
+mod Groups
+mod Handled
+mod Ids
+mod Merged
+mod Normal
+mod Ruled
+mod Small
+mod TypeKinds
+mod Values
