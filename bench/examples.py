@@ -7,9 +7,10 @@
 PROGRAM is the built program, FOLDER holds .wasm files, at any depth. Of each that `wasm-validate` or `node` takes, what `strip`, `count_calls`,
 `snip` (of no function: what isn't needed goes) and `source_map` write has to be valid too, by the same; `strip` has to leave no custom section
 but `producers`, and to give the same bytes when it is done twice; each pair of `source_map` has to have the same mnemonic at both ends, by
-`wasm-objdump`, where an `else` that is written for an `if` without one shares its offset with that if's `end`. A module that is refused is told
-where both take it. Files with a section whose numbers nobody rewrites (`linking` of object files, `metadata.code.*`) are left out. So is what
-isn't there of `wasm-validate`, `wasm-objdump` and `node`.
+`wasm-objdump`, where an `else` that is written for an `if` without one shares its offset with that if's `end`. In `node`, exported functions
+without parameters have to give what they gave before, where all imports are functions (each answers 0) and that takes less than ten seconds.
+A module that is refused is told where both take it. Files with a section whose numbers nobody rewrites (`linking` of object files,
+`metadata.code.*`) are left out. So is what isn't there of `wasm-validate`, `wasm-objdump` and `node`.
 """
 import argparse
 import os
@@ -22,6 +23,21 @@ import tempfile
 FEATURES = ["--enable-all"]
 HAS_NUMBERS = re.compile(r"linking$|metadata\.code\.")
 COMPILES = "try { new WebAssembly.Module(require('fs').readFileSync(process.argv[1])) } catch (e) { process.exit(1) }"
+
+RUNS = """
+const module = new WebAssembly.Module(require('fs').readFileSync(process.argv[1])), given = {}, said = [];
+for (const it of WebAssembly.Module.imports(module)) {
+    if (it.kind !== 'function') process.exit(1);
+    (given[it.module] ??= {})[it.name] = () => 0;
+}
+const text = (it) => (typeof it === 'function' || (typeof it === 'object' && it) ? typeof it : String(it));
+const tried = (name, call) => { try { said.push([name, text(call())]) } catch (e) { said.push([name, e.constructor.name]) } };
+let there = {};
+tried('', () => { there = new WebAssembly.Instance(module, given).exports });
+const names = Object.keys(there).filter((name) => typeof there[name] === 'function' && there[name].length === 0);
+for (const name of names.sort().slice(0, 20)) tried(name, there[name]);
+console.log(JSON.stringify(said));
+"""
 
 
 def run(*words):
@@ -49,6 +65,14 @@ class Judges:
         if self.node and succeeds(self.node, "-e", COMPILES, path):
             found.add("node")
         return found
+
+    def runs(self, path):
+        """What exported functions give, where that is known."""
+        try:
+            ran = subprocess.run((self.node, "-e", RUNS, path), capture_output=True, timeout=10) if self.node else None
+        except subprocess.TimeoutExpired:
+            return None
+        return ran.stdout if ran and not ran.returncode else None
 
     def customs(self, path):
         """The names of a file's custom sections."""
@@ -91,6 +115,10 @@ def faults_of(program, judges, path, folder):
         found += [f"{name}: refused by {judge}" for judge in sorted(lacking)]
     if found:
         return accepted, found
+    gave = judges.runs(path) if "node" in accepted else None
+    for name in ("strip", "count_calls", "snip", "source_map"):
+        if gave is not None and judges.runs(out[name]) not in (gave, None):
+            found.append(f"{name}: gives something else in node")
     run(program, "strip", out["strip"], out["again"])
     with open(out["strip"], "rb") as one, open(out["again"], "rb") as other:
         if one.read() != other.read():

@@ -254,12 +254,12 @@ module _ {B : Type 0} (stand_so : EmittedPartsStand B) (numbered_left : Numbered
   same : part q (code.numbered (parts left)) ≡ part p m
   same = ap (λ (x : grammar.Module). part q x) (numbered_is_one (parts left)) ∙ stood.same
 
-  stands : (customs : List (Option grammar.Custom)) → Stands place_of config.keep_segments (read_features config) file (record (part q (code.numbered (parts left))) { customs = customs }) t p
-  stands customs = record {
+  stands : (n : grammar.Module) → without_places n ≡ record (without_places (part q (code.numbered (parts left)))) { customs = n.customs } → Stands place_of config.keep_segments (read_features config) file n t p
+  stands n is = record {
     writes = writes;
     ordered = stood.order;
     declared = stood.declared;
-    whole = ap (λ (x : grammar.Module). record (without_places x) { customs = customs }) same;
+    whole = is ∙ ap (λ (x : grammar.Module). record (without_places x) { customs = n.customs }) same;
   }
 
   stands_for_file : StandsForFile config bytes file found read kept left facts order emitted

@@ -1,5 +1,5 @@
 -- Lemmas: the types that are left are listed by their places.
-use Rattle.std.specs.Prelude.{ℕ, zero, suc, ◌≡◌, ◌||◌, Bool, true, false, Contains, List, [], ◌∷◌, map, filter, Option, Some, None, IsSome, is_some, slice_get, slice_index_or, refl, if◌then◌else◌}
+use Rattle.std.specs.Prelude.{ℕ, zero, suc, ◌≡◌, ◌+◌, ◌||◌, Bool, true, false, Contains, List, [], ◌∷◌, map, filter, Option, Some, None, IsSome, is_some, slice_get, slice_index_or, refl, if◌then◌else◌}
 use Rattle.std.specs.List.{list_any}
 use Rattle.std.specs.Option.{option_and_then, unwrap_or}
 use Rattle.std.proofs.Common.{ap, sym, ◌∙◌, subst, arith, inl, inr}
@@ -13,7 +13,7 @@ use Rattle.walrus_types.specs.Items.{Item, Group}
 use Rattle.walrus_types.specs.Table.{Table, type_at}
 use Rattle.walrus_types.specs.TypeLaws.{AreGrouped}
 use Rattle.walrus_types.proofs.OnceLemmas.{place_written, reordered, some_is}
-use Rattle.walrus_types.proofs.Places.{Has, at_map, contains_has, has_contains, map_at, seat, unseat}
+use Rattle.walrus_types.proofs.Places.{Has, at_map, contains_has, has_contains, map_at, seat, start, unseat}
 use Rattle.walrus_type_arenas.proofs.DeleteLemmas.{contains-filter}
 use Rattle.walrus_pass_laws.proofs.Sets.{In, contains_of, in_of}
 use Rattle.walrus_kept_types_laws.specs.Placed.{place_among, placed_indices}
@@ -101,7 +101,7 @@ module _ (t : Table) (grouped : AreGrouped t) (out : _) (indices : List (Option 
       let same : home.0 ≡ f.0 = same_Some home.0 f.0 (sym wg.1 ∙ f.2) in
       let member : Contains (written_in t f.0) id = contains_of (written_in t f.0) id (in_passed (is_written t) f.0.types id (in_of f.0.types id (subst (λ (g : Group). Contains g.types id) same home.1.listed)) w) in
       let k = contains_has (written_in t f.0) id member in
-      (_, unseat (written_in t) e.groups turn.0 k.0 f.0 id f.1 k.1)
+      (start (written_in t) e.groups turn.0 + k.0, unseat (written_in t) e.groups turn.0 k.0 f.0 id f.1 k.1)
 
   index_of : (id : ℕ) → Shown t id → (index : ℕ) × (slice_index_or indices id None ≡ Some index)
   index_of id s = (unwrap_or (slice_index_or indices id None) 0, some_is (slice_index_or indices id None) (e.arranged.indexed.each id (has_contains (written_types t e.groups) id (listed id s))))

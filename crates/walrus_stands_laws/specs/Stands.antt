@@ -1,6 +1,6 @@
 -- What emission writes of a module that was read, and of which what isn't kept was dropped, stands for its file: the part of the file's merged module that has just
 -- what is kept, by a plan, in order, with the functions declared that have to be.
-use Rattle.std.specs.Prelude.{ℕ, ◌≡◌, List, [], Option}
+use Rattle.std.specs.Prelude.{ℕ, ◌≡◌, List, []}
 use Rattle.std.specs.List.{AllZip}
 use Rattle.walrus_arena.specs.Arena.{entries}
 use Rattle.walrus_collections.specs.LookUps.{local_entries}
@@ -32,6 +32,7 @@ use Rattle.walrus_kept_types_laws.specs.Placed.{placed_table}
 use Rattle.walrus_declared_laws.specs.Standing.{file_plan, merged_file}
 use Rattle.wasm_grammar.specs.Modules as grammar
 use Rattle.wasm_modules.specs.Modules.{Reads}
+use Rattle.wasm_module_bytes.specs.Bytes.{without_places}
 use Rattle.wasm_part.specs.Handlers.{handler_groups}
 use Rattle.wasm_part.specs.Order.{HasDeclared, InOrder}
 use Rattle.wasm_part.specs.Part.{Plan, part}
@@ -71,8 +72,9 @@ module _ {B : Type 0} (config : ModuleConfig) (bytes : List ℕ) (file : grammar
     pub declared : HasDeclared (merged_file config file) plan_in_file plan_in_file.declared
     pub same : part (plan_of left facts order emitted) (code.numbered (parts left)) ≡ part plan_in_file (merged_file config file)
     pub functions : FunctionsAtPlaces plan_in_file
-    -- so it stands with any custom sections
-    pub stands : (customs : List (Option grammar.Custom)) → Stands place_of config.keep_segments (read_features config) file (record (part (plan_of left facts order emitted) (code.numbered (parts left))) { customs = customs }) types_in_file plan_in_file
+    -- so what is that part, places aside, with any custom sections, stands for the file
+    pub stands : (n : grammar.Module) → without_places n ≡ record (without_places (part (plan_of left facts order emitted) (code.numbered (parts left)))) { customs = n.customs }
+        → Stands place_of config.keep_segments (read_features config) file n types_in_file plan_in_file
 
 abbrev pub EmissionsStandForFiles : Type 0 → Type 0
 EmissionsStandForFiles B = (config : ModuleConfig) (bytes : List ℕ) (file : grammar.Module) (found : Ids) (read kept left : Module B) (facts : List BodyFacts) (order : List ℕ) (emitted : EmittedTypes)
