@@ -67,7 +67,7 @@ module _ (t : TypeTable) (file : grammar.Module) (are : AreReadOf file t) where
   kind_at : (n : ℕ) (kind : Kind) → slice_get kinds n ≡ Some kind → (id : ℕ) × (slice_get ids n ≡ Some id) × HasKind t id kind
   kind_at n kind e = at_left (HasKind t) ids kinds (types_beside t) n kind e
 
-  id_at : (n id : ℕ) → slice_get ids n ≡ Some id → (kind : Kind) × (slice_get kinds n ≡ Some kind) × HasKind t id kind
+  pub id_at : (n id : ℕ) → slice_get ids n ≡ Some id → (kind : Kind) × (slice_get kinds n ≡ Some kind) × HasKind t id kind
   id_at n id e = at_right (HasKind t) ids kinds (types_beside t) n id e
 
   written : (id : ℕ) (kind : Kind) → HasKind t id kind → written_kind t id ≡ Some kind

@@ -65,7 +65,7 @@ module _ (test : ℕ → Kind → Bool) where
 
 -- ---- kinds that are new, one behind the other
 
-get_front : (xs ys : List Kind) (n : ℕ) (k : Kind) → slice_get xs n ≡ Some k → slice_get (xs ++ ys) n ≡ Some k
+pub get_front : (xs ys : List Kind) (n : ℕ) (k : Kind) → slice_get xs n ≡ Some k → slice_get (xs ++ ys) n ≡ Some k
 get_front [] ys n k e = absurd (none-some k e)
 get_front (x ∷ xs) ys zero k e = e
 get_front (x ∷ xs) ys (suc n) k e = get_front xs ys n k e

@@ -17,5 +17,6 @@ mod Bare
 mod Context
 mod Sees
 mod Bodies
+mod Given
 mod Kept
 mod Planned

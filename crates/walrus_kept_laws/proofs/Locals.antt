@@ -195,7 +195,7 @@ insert_in : (j k : Key) (ks : List Key) → (j ≡ k) ⊎ In ks k → In (insert
 insert_in j k [] h = h
 insert_in j k (x ∷ xs) h = join_insert j k x xs (is_less (key_cmp x j)) (insert_in j k xs) h
 
-of_order : (k : Key) (ks : List Key) → In (in_order ks) k → In ks k
+pub of_order : (k : Key) (ks : List Key) → In (in_order ks) k → In ks k
 of_order k [] h = h
 of_order k (x ∷ xs) h = elim (in_insert x k (in_order xs) h) as (λ _. In (x ∷ xs) k) [ inl e ↦ inl e | inr i ↦ inr (of_order k xs i) ]
 
@@ -210,7 +210,7 @@ module _ (p : Key → Bool) where
   split_filter k x xs true e rest (inr i) = (let r = rest i in (r.0, inr r.1))
   split_filter k x xs false e rest i = (let r = rest i in (r.0, inr r.1))
 
-  in_filter : (k : Key) (ks : List Key) → In (filter p ks) k → (p k ≡ true) × In ks k
+  pub in_filter : (k : Key) (ks : List Key) → In (filter p ks) k → (p k ≡ true) × In ks k
   in_filter k [] h = absurd h
   in_filter k (x ∷ xs) h = split_filter k x xs (p x) refl (in_filter k xs) h
 
@@ -227,7 +227,7 @@ module _ (p : Key → Bool) where
 abbrev key : ValType → ℕ → Key
 key ty n = (ty, n)
 
-in_numbered : (from : ℕ) (tys : List ValType) (k : Key) → In (numbered from tys) k → (p : ℕ) × (k.1 ≡ from + p) × (slice_get tys p ≡ Some k.0)
+pub in_numbered : (from : ℕ) (tys : List ValType) (k : Key) → In (numbered from tys) k → (p : ℕ) × (k.1 ≡ from + p) × (slice_get tys p ≡ Some k.0)
 in_numbered from [] k h = absurd h
 in_numbered from (ty ∷ tys) k (inl e) = (0, (let s : from ≡ k.1 = ap (λ (x : Key). x.1) e in omega (arith, s)), ap (λ (x : Key). Some x.0) e)
 in_numbered from (ty ∷ tys) k (inr h) = (let r = in_numbered (suc from) tys k h in (suc r.0, omega (arith, r.1), r.2))

@@ -34,7 +34,7 @@ in_get [] x h = absurd h
 in_get {A} (y ∷ xs) x (inl e) = (zero, ap (λ (z : A). Some z) e)
 in_get (y ∷ xs) x (inr h) = let t = in_get xs x h in (suc t.0, t.1)
 
-get_in : {A : Type 0} (xs : List A) (n : ℕ) (x : A) → slice_get xs n ≡ Some x → In xs x
+pub get_in : {A : Type 0} (xs : List A) (n : ℕ) (x : A) → slice_get xs n ≡ Some x → In xs x
 get_in [] n x e = absurd (none-some x e)
 get_in (y ∷ xs) zero x e = inl (same_Some y x e)
 get_in (y ∷ xs) (suc n) x e = inr (get_in xs n x e)

@@ -1,6 +1,7 @@
 -- A module that was read: references look at the same in memory, by ids, and in its file, by places.
 use Rattle.std.specs.Prelude.{ℕ, ◌<◌, Bool, List, [], All}
 use Rattle.wasm_grammar.specs.Modules as grammar
+use Rattle.wasm_modules.specs.Modules.{Reads}
 use Rattle.wasm_part.specs.Seen.{seen_as}
 use Rattle.walrus_config.specs.declared.config.ModuleConfig.{ModuleConfig}
 use Rattle.walrus_index_maps.specs.Maps.{Ids}
@@ -16,5 +17,5 @@ use Rattle.walrus_kept_laws.specs.Alike.{KeptAlike}
 
 -- what is kept of what it means is what is kept of it as it stands in a file, each type at its place among those that are written
 abbrev pub SeenAsMeant : Type 0 → Type 0
-SeenAsMeant B = (config : ModuleConfig) (bytes : List ℕ) (file : grammar.Module) (m : Whole B) (found : Ids) → All (λ b. b < 256) bytes → IsReadAs config bytes m found → MeansFile config file m found
-    → AreGrouped m.types → (keep : Bool) → KeptAlike (type_ids m.types) (meant (parts m)) (seen_as (read_features config) (numbered (parts m))) keep []
+SeenAsMeant B = (config : ModuleConfig) (bytes : List ℕ) (file : grammar.Module) (m : Whole B) (found : Ids) → All (λ b. b < 256) bytes → IsReadAs config bytes m found
+    → Reads (read_features config) bytes file → MeansFile config file m found → AreGrouped m.types → (keep : Bool) → KeptAlike (type_ids m.types) (meant (parts m)) (seen_as (read_features config) (numbered (parts m))) keep []
