@@ -18,5 +18,6 @@ mod Context
 mod Sees
 mod Bodies
 mod Given
+mod Looks
 mod Kept
 mod Planned
