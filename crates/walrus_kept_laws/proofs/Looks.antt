@@ -1,8 +1,9 @@
 -- Lemmas: references of a module that was read look the same by ids in memory as by places in the file.
-use Rattle.std.specs.Prelude.{ℕ, zero, suc, ◌≡◌, ◌<◌, Bool, true, false, List, [], ◌∷◌, ◌++◌, All, Contains, length, map, Option, Some, None, MatchOption, IsSome, IfSome, slice_get, slice_index_or, refl}
+use Rattle.std.specs.Prelude.{if◌then◌else◌, ℕ, zero, suc, ◌≡◌, ◌<◌, Bool, true, false, List, [], ◌∷◌, ◌++◌, All, Contains, length, map, Option, Some, None, MatchOption, IsSome, IfSome, slice_get, slice_index_or, refl}
 use Rattle.std.specs.List.{flat_map, range_with_len}
-use Rattle.std.specs.Option.{option_map, is_some}
+use Rattle.std.specs.Option.{is_some, option_and_then, option_map}
 use Rattle.std.proofs.Common.{ap, sym, ◌∙◌, subst, arith, inl, inr}
+use Rattle.std.proofs.lemmas.Bool.{false≢true}
 use Rattle.std.proofs.lemmas.List.{length-map}
 use Rattle.std.proofs.lemmas.Option.{none-some, same_Some}
 use Rattle.walrus_arena.specs.Arena.{item_at}
@@ -17,7 +18,7 @@ use Rattle.walrus_forms.proofs.RenamingLemmas.{In as Among}
 use Rattle.walrus_index_maps.specs.Maps.{Ids}
 use Rattle.walrus_items.specs.declared.local.Local.{Local}
 use Rattle.walrus_types.specs.Items.{Item as TypeItem}
-use Rattle.walrus_types.specs.Emission.{is_written}
+use Rattle.walrus_types.specs.Emission.{is_written, shown_kind}
 use Rattle.walrus_types.specs.Mergers.{ParsingCarriesSame}
 use Rattle.walrus_types.specs.Table.{next_id, type_at}
 use Rattle.walrus_types.specs.TypeLaws.{AreGrouped}
@@ -50,7 +51,7 @@ use Rattle.wasm_ruled_renamed.specs.Renamed.{renamed_placed}
 use Rattle.wasm_normal_modules.specs.Modules.{ReadModulesBringNoTypes, by_types, normal_function, normal_origin, retyped_element, retyped_global, retyped_segment, retyped_table, retyped_tag}
 use Rattle.wasm_merged_modules.specs.Merged.{MissingKindsAreNew, NewKindsStandBehind, ids_of, kept_of, kinds_of, merged_module}
 use Rattle.wasm_merged_modules.proofs.Merged.{kind_there, kinds_joined}
-use Rattle.wasm_references.specs.References.{IsType, Numbered, RefersIn, body_items, element_items, function_items, global_items, item, local_items, named_by, names_items, segment_items, slot, table_items, tag_items, value_items}
+use Rattle.wasm_references.specs.References.{HasData, HasElement, IsType, Numbered, RefersIn, body_items, element_items, function_items, global_items, item, local_items, named_by, names_items, segment_items, slot, table_items, tag_items, value_items}
 use Rattle.wasm_references.specs.References as references
 use Rattle.wasm_references.specs.Kept.{IsReached, refers}
 use Rattle.wasm_part.specs.Handlers.{HandlersAreMissing, handler_groups}
@@ -63,11 +64,13 @@ use Rattle.walrus_body_laws.proofs.Fitting.{RunsFit}
 use Rattle.walrus_builder.specs.Built.{seq_of}
 use Rattle.walrus_builder.specs.Functions.{seqs_of}
 use Rattle.walrus_pairing.specs.Laws.{OperatorComesBack}
+use Rattle.walrus_roots.specs.declared.item.Item.{Item as Held}
+use Rattle.walrus_roots.specs.Items.{item as held}
 use Rattle.walrus_tree.specs.TextLaws.{TextIsPlain, TreesAreNested}
 use Rattle.walrus_linked.specs.Linked.{IsLinked, IsWhole}
 use Rattle.walrus_local_function.specs.declared.local_function.LocalFunction.{LocalFunction}
 use Rattle.walrus_module.specs.declared.module.Module.{Module as Whole}
-use Rattle.walrus_module.specs.Items.{written_type}
+use Rattle.walrus_module.specs.Items.{written, written_type}
 use Rattle.walrus_module.specs.Parts.{Module, parts}
 use Rattle.walrus_module_items.specs.Functions.{type_of}
 use Rattle.walrus_module_items.specs.declared.function.Function.{Function}
@@ -85,11 +88,12 @@ use Rattle.walrus_parse_gc_laws.specs.Numbered.{numbered, numbered_body, numbere
 use Rattle.walrus_parse_gc_laws.specs.Ruled.{MeaningsAreMerged}
 use Rattle.walrus_pass_laws.specs.Bodies.{parts_of}
 use Rattle.walrus_pass_laws.specs.Locals.{type_of_local}
-use Rattle.walrus_pass_laws.specs.Meant.{KeptIsMeant, function_parts, meant}
+use Rattle.walrus_pass_laws.specs.Meant.{KeptIsMeant, function_parts, listed_data, listed_elements, meant}
 use Rattle.walrus_pass_laws.specs.Served.{LinkedAreServed}
 use Rattle.walrus_pass_laws.proofs.Sets.{In, contains_of, flat_in, in_cases, in_map, in_of}
 use Rattle.walrus_kept_types_laws.specs.Read.{AreReadOf, HandlersAreLacking, ReadTypesAreRead}
 use Rattle.walrus_kept_laws.specs.Alike.{KeptAlike, StandsFor}
+use Rattle.walrus_kept_laws.specs.Seen.{SeenAsMeant}
 use Rattle.walrus_kept_laws.proofs.Bare.{no_data, no_elements}
 use Rattle.walrus_kept_laws.proofs.Bodies.{lists_alike}
 use Rattle.walrus_kept_laws.proofs.Context as context
@@ -101,7 +105,7 @@ use Rattle.walrus_kept_laws.proofs.Left.{slot_at}
 use Rattle.walrus_kept_laws.proofs.Locals.{in_filter, in_numbered, local_same, of_order}
 use Rattle.walrus_kept_laws.proofs.Low.{AreLow, IsLow, element_low, flat_low, global_low, operator_low, segment_low, slot_low, table_low, tag_low, value_low}
 use Rattle.walrus_kept_laws.proofs.Reach.{itself, kept_alike}
-use Rattle.walrus_kept_laws.proofs.Refs.{LookAlike, stand_alike}
+use Rattle.walrus_kept_laws.proofs.Refs.{LookAlike, stand_alike, there_is}
 use Rattle.walrus_kept_laws.proofs.Sees.{sees_alike}
 use Rattle.walrus_kept_laws.proofs.Types.{get_in, in_get}
 use Rattle.walrus_kept_laws.proofs.Walk.{sent}
@@ -141,6 +145,22 @@ among : (xs : List ℕ) (j : ℕ) → In xs j → Among j xs
 among [] j h = h
 among (x ∷ xs) j (inl e) = inl e
 among (x ∷ xs) j (inr h) = inr (among xs j h)
+
+-- ---- what lives
+
+apart : spaces.«Type» ≡ spaces.Memory → ⊥
+apart e = cc
+
+none_held : (x : Held) → Contains [] x → ⊥
+none_held x c = omega (arith, c.1)
+
+not_written : (o : Option TypeItem) → is_some (option_and_then (λ (x : TypeItem). shown_kind x.kind) o) ≡ false → IsSome (written o) → ⊥
+not_written None e h = false≢true h
+not_written (Some x) e h = by x.kind.entry e h
+  where
+    by : (b : Bool) → is_some (if b then None else Some x.kind) ≡ false → IsSome (if b then None else Some x) → ⊥
+    by true e h = false≢true h
+    by false e h = cc
 
 -- ---- a module that was read
 
@@ -434,3 +454,128 @@ module _ {B : Type 0} (merged : MeaningsAreMerged B) (lacking : HandlersAreLacki
         (subst (λ (z : Option grammar.Function). ListsAlike ids (named_by (function_items (type_of_local m.locals) (function_parts o)) z)
             (named_by (function_items (λ k. slice_get (slot_locals there (option_map (numbered_function m.locals) o)) k) (slot_parts a (option_map (numbered_function m.locals) o))) (option_map (numbered_function m.locals) o)))
         (sym (slot_at (own_function m.locals) m.funcs.slots n)) (option_alike n o refl))
+
+    -- ---- other items
+
+    fixed_in : (p : Space) (n : ℕ) → (p ≡ spaces.Function → ⊥) → (p ≡ spaces.«Type» → ⊥) → (z : grammar.Item) → RefersIn (meant pm) p n z → StandsFor ids z z
+    fixed_in spaces.«Type» n f t z h = absurd (t refl)
+    fixed_in spaces.Function n f t z h = absurd (f refl)
+    fixed_in spaces.Table n f t z (inl c) =
+        low_fixed z (subst (λ (l : List (Option grammar.Table)). AreLow count (named_by table_items (slot l n))) (sym (ap (λ (y : grammar.Module). y.tables) is_merged)) (slot_low count table_items (retyped_table s) (table_low count named s low) file.tables n) z (in_of _ z c))
+    fixed_in spaces.Table n f t z (inr c) = let h = there_is (slot (means pm).tables n) c in subst (λ (y : grammar.Item). StandsFor ids y y) (sym h.1) (itself ids spaces.Element h.0 (λ d. absurd cc))
+    fixed_in spaces.Memory n f t z c = let h = there_is (slot (means pm).memories n) c in subst (λ (y : grammar.Item). StandsFor ids y y) (sym h.1) (itself ids spaces.Data h.0 (λ d. absurd cc))
+    fixed_in spaces.Global n f t z c =
+        low_fixed z (subst (λ (l : List (Option grammar.Global)). AreLow count (named_by global_items (slot l n))) (sym (ap (λ (y : grammar.Module). y.globals) is_merged)) (slot_low count global_items (retyped_global s) (global_low count named s low) file.globals n) z (in_of _ z c))
+    fixed_in spaces.Tag n f t z c =
+        low_fixed z (subst (λ (l : List (Option grammar.Tag)). AreLow count (named_by tag_items (slot l n))) (sym tags_are) (slot_low count tag_items (retyped_tag s) (tag_low count named s low) file.tags n) z (in_of _ z c))
+    fixed_in spaces.Element n f t z c =
+        low_fixed z (subst (λ (l : List (Option grammar.Element)). AreLow count (named_by element_items (slot l n))) (sym (ap (λ (y : grammar.Module). y.elements) is_merged)) (slot_low count element_items (retyped_element s) (element_low count named s low) file.elements n) z (in_of _ z c))
+    fixed_in spaces.Data n f t z c =
+        low_fixed z (subst (λ (l : List (Option grammar.Segment)). AreLow count (named_by segment_items (slot l n))) (sym (ap (λ (y : grammar.Module). y.segments) is_merged)) (slot_low count segment_items (retyped_segment s) (segment_low count named s low) file.segments n) z (in_of _ z c))
+    fixed_in spaces.Local n f t z c = absurd c
+    fixed_in spaces.Label n f t z c = absurd c
+
+  -- ---- all of it
+
+  abbrev Look : Type 0
+  Look = LookAlike (means pm) there.functions ids (length (types_of there)) (λ f id. type_of_local m.locals id) (λ f n. slice_get (slot_locals there (slice_index_or there.functions f None)) n)
+      (λ f. function_parts (item_at m.funcs f)) (λ f. slot_parts a (slice_index_or there.functions f None)) (λ t. listed_elements (item_at m.tables t)) (λ x. listed_data (item_at m.memories x)) keep
+
+  abbrev Reached : Space → ℕ → Type 0
+  Reached p n = IsReached (meant pm) keep [] (item p n)
+
+  no_types : (e : ℕ) (x : grammar.Export) → slot (means pm).exports e ≡ Some x → x.item.space ≡ spaces.«Type» → ⊥
+  no_types e x at = each_at (λ (y : grammar.Export). y.item.space ≡ spaces.«Type» → ⊥) file.exports e x (brings features bytes file reads).exports (ap (λ (y : grammar.Module). slot y.exports e) (sym is_merged) ∙ at)
+
+  kinds_fixed : (group : TypeGroup × List ℕ) (kind : Kind) (id : ℕ) → IsType (meant pm) id group kind → (z : grammar.Item) → Contains (map (item spaces.«Type») (kind_names kind)) z → StandsFor ids z z
+  kinds_fixed group kind id is z c =
+      let g = in_groups (means pm).groups ids group (in_of _ group is.listed) in
+      let k = in_get (types_of there) kind (flat_in (λ (y : TypeGroup). y.kinds) (means pm).groups group.0 kind g (get_in group.0.kinds is.place kind is.known)) in
+      let j = in_map (item spaces.«Type») (kind_names kind) z (in_of _ z c) in
+      let lt : j.0 < count = context.kinds_low m.types file are k.0 kind k.1 j.0 (among (kind_names kind) j.0 j.1) in
+      low_fixed z (λ d. subst (λ (n : ℕ). n < count) (ap (λ (y : grammar.Item). y.number) j.2) lt)
+
+  with_types : 0 < count → Look
+  with_types some = record {
+    once = context.once_ids m.types file are;
+    counts = context.kinds_many m.types file are;
+    no_elements = no_elements config bytes m found is;
+    no_data = no_data config bytes m found is;
+    given = no_types;
+    fixed = λ p n f t r z h. fixed_in some p n f t z h;
+    kinds = λ id group kind r is z c. kinds_fixed group kind id is z c;
+    functions_forth = λ n r z c. (let t = (functions_alike some n).forth z (in_of _ z c) in (t.0, t.1, contains_of _ t.0 t.2));
+    functions_back = λ n r u c. (let t = (functions_alike some n).back u (in_of _ u c) in (t.0, t.1, contains_of _ t.0 t.2));
+  }
+
+  -- ---- where it has none
+
+  abbrev kept_pm : Module
+  kept_pm = record pm { config = record pm.config { keep_segments = keep } }
+
+  linked : IsLinked kept_pm
+  linked = record {
+    imports = means_file.linked.imports;
+    imported = means_file.linked.imported;
+    whole = means_file.linked.whole;
+    named = means_file.linked.named;
+    grouped = means_file.linked.grouped;
+    exported = means_file.linked.exported;
+    started = means_file.linked.started;
+  }
+
+  lives : (id : ℕ) → Reached spaces.«Type» id → IsSome (written_type m.types id)
+  lives id r =
+      let k = (kept_is kept_pm [] linked is_grouped (λ x c. absurd (none_held x c)) (held spaces.«Type» id) (λ e. absurd cc)).1 (inl r) in
+      elim k as (λ _. IsSome (written_type m.types id)) [
+        | inl h ↦ ((served kept_pm [] linked).pushing_live (λ x c. absurd (none_held x c))).live (held spaces.«Type» id) h
+        | inr p ↦ absurd (apart (ap (λ (x : Held). x.space) p.is))
+      ]
+
+  module _ (none : (id : ℕ) → is_written m.types id ≡ false) where
+    unreached : (id : ℕ) → Reached spaces.«Type» id → ⊥
+    unreached id r = not_written (type_at m.types id) (none id) (lives id r)
+
+    fixed_none : (x z : grammar.Item) → IsReached (meant pm) keep [] x → references.Refers (meant pm) x z → StandsFor ids z z
+    fixed_none x z r h = low_fixed z (λ d. absurd (unreached z.number (subst (λ (p : Space). Reached p z.number) d (refers r h))))
+
+    no_function : (n : ℕ) (f : grammar.Function) → Reached spaces.Function n → slot (means pm).functions n ≡ Some f → ⊥
+    no_function n f r e =
+        unreached f.ty (refers r (subst (λ (o : Option grammar.Function). Contains (named_by (function_items (type_of_local m.locals) (function_parts (item_at m.funcs n))) o) (item spaces.«Type» f.ty)) (sym e)
+        (contains_of (function_items (type_of_local m.locals) (function_parts (item_at m.funcs n)) f) (item spaces.«Type» f.ty) (inl refl))))
+
+    no_slot : (n : ℕ) → Reached spaces.Function n → item_at m.funcs n ≡ None
+    no_slot n r = by (item_at m.funcs n) refl
+      where
+        by : (o : Option Function) → item_at m.funcs n ≡ o → item_at m.funcs n ≡ None
+        by None e = e
+        by (Some f) e = absurd (no_function n (own_function m.locals f) r (slot_at (own_function m.locals) m.funcs.slots n ∙ ap (option_map (own_function m.locals)) e))
+
+    none_named : (items : grammar.Function → List grammar.Item) (o : Option grammar.Function) (z : grammar.Item) → o ≡ None → Contains (named_by items o) z → ⊥
+    none_named items o z e c = in_of [] z (subst (λ (x : Option grammar.Function). Contains (named_by items x) z) e c)
+
+    without_types : Look
+    without_types = record {
+      once = context.once_ids m.types file are;
+      counts = context.kinds_many m.types file are;
+      no_elements = no_elements config bytes m found is;
+      no_data = no_data config bytes m found is;
+      given = no_types;
+      fixed = λ p n f t r z h. fixed_none (item p n) z r h;
+      kinds = λ id group kind r is z c. absurd (unreached id r);
+      functions_forth = λ n r z c. absurd (none_named _ (slot (means pm).functions n) z (slot_at (own_function m.locals) m.funcs.slots n ∙ ap (option_map (own_function m.locals)) (no_slot n r)) c);
+      functions_back = λ n r u c. absurd (none_named _ (slot there.functions n) u (slot_at (numbered_function m.locals) m.funcs.slots n ∙ ap (option_map (numbered_function m.locals)) (no_slot n r)) c);
+    }
+
+  look : Look
+  look = elim (are.sent 0) as (λ _. Look) [ inl lt ↦ with_types (omega (arith, lt)) | inr none ↦ without_types none ]
+
+  looks : KeptAlike ids (meant pm) (seen_as features there) keep []
+  looks = kept_alike ids look.once (meant pm) (seen_as features there) keep []
+      (stand_alike (means pm) there.functions ids (length (types_of there)) (λ f id. type_of_local m.locals id) (λ f n. slice_get (slot_locals there (slice_index_or there.functions f None)) n)
+      (λ f. function_parts (item_at m.funcs f)) (λ f. slot_parts a (slice_index_or there.functions f None)) (λ t. listed_elements (item_at m.tables t)) (λ x. listed_data (item_at m.memories x)) keep look)
+
+pub seen_meant : {B : Type 0} → MeaningsAreMerged B → HandlersAreLacking → ReadTypesAreRead B → ParsingCarriesSame → NewKindsStandBehind → MissingKindsAreNew → HandlersAreMissing → SameKindIsEquality → NamesAreRenamed → TextIsPlain → TreesAreNested
+    → OperatorComesBack → NormalNests → AreSpelled → ReadModulesBringNoTypes → KeptIsMeant → LinkedAreServed → SeenAsMeant B
+seen_meant merged lacking read_types carries behind missing_new missing same_is named plain nest back nests spelled brings kept_is served config bytes file m found small is reads means_file is_grouped keep =
+    looks merged lacking read_types carries behind missing_new missing same_is named plain nest back nests spelled brings kept_is served config bytes file m found small is reads means_file is_grouped keep

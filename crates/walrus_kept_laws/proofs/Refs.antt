@@ -112,7 +112,7 @@ placed ids = placed_from [] ids
 
 -- ---- what is there
 
-there_is : {A : Type 0} {P : Type 0} (o : Option A) → MatchOption o ⊥ (λ (_ : A). P) → P
+pub there_is : {A : Type 0} {P : Type 0} (o : Option A) → MatchOption o ⊥ (λ (_ : A). P) → P
 there_is None h = absurd h
 there_is (Some x) h = h
 
