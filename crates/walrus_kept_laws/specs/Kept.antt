@@ -1,7 +1,8 @@
 -- A plan that lists what `gc::run` left of a module that was read has just what is kept of the file's module.
-use Rattle.std.specs.Prelude.{ℕ, ◌≡◌, List, [], Contains, Option, Some, None, IsSome, slice_get, slice_index_or}
+use Rattle.std.specs.Prelude.{ℕ, ◌≡◌, ◌<◌, List, [], All, Contains, Option, Some, None, IsSome, slice_get, slice_index_or}
 use Rattle.std.specs.List.{AllByRecursion}
 use Rattle.wasm_grammar.specs.Modules as grammar
+use Rattle.wasm_modules.specs.Modules.{Reads}
 use Rattle.wasm_operators.specs.Items.{Space, Types, Functions, Tables, Memories, Tags, Globals, ElementSegments, DataSegments}
 use Rattle.wasm_part.specs.Handlers.{handler_groups}
 use Rattle.wasm_part.specs.Kept.{HasKept, ListsItems}
@@ -16,7 +17,7 @@ use Rattle.walrus_module.specs.Parts.{Module, parts}
 use Rattle.walrus_meaning.specs.Meaning.{type_ids}
 use Rattle.walrus_passes.specs.Part.{IsKeptPart}
 use Rattle.walrus_refusals.specs.Sound.{IsSound}
-use Rattle.walrus_named_bodies.specs.Parsed.{read_features}
+use Rattle.walrus_named_bodies.specs.Parsed.{IsReadAs, read_features}
 use Rattle.walrus_parse_laws.specs.Meant.{place_of}
 use Rattle.walrus_parse_laws.specs.Means.{MeansFile}
 use Rattle.walrus_pass_laws.specs.Meant.{meant}
@@ -48,5 +49,12 @@ pub record ListsJust (ids : List ℕ) (n : Module) (p : Plan) : Type 0 where
 abbrev pub PlansHaveKept : Type 0 → Type 0
 PlansHaveKept B = (config : ModuleConfig) (file : grammar.Module) (m : Whole B) (found : Ids) → MeansFile config file m found → AreGrouped m.types → IsSound (parts m) []
     → KeptAlike (type_ids m.types) (meant (parts m)) (seen_as (read_features config) (numbered (parts m))) m.config.keep_segments []
+    → (n : Module) → IsKeptPart (parts m) [] n → (p : Plan) → ListsJust (type_ids m.types) n p
+    → HasKept (file_seen place_of (read_features config) (handler_groups file) file) m.config.keep_segments [] p
+
+-- so it is of each module that was read
+abbrev pub ReadPlansHaveKept : Type 0 → Type 0
+ReadPlansHaveKept B = (config : ModuleConfig) (bytes : List ℕ) (file : grammar.Module) (m : Whole B) (found : Ids) → All (λ b. b < 256) bytes → IsReadAs config bytes m found
+    → Reads (read_features config) bytes file → MeansFile config file m found → AreGrouped m.types → IsSound (parts m) []
     → (n : Module) → IsKeptPart (parts m) [] n → (p : Plan) → ListsJust (type_ids m.types) n p
     → HasKept (file_seen place_of (read_features config) (handler_groups file) file) m.config.keep_segments [] p

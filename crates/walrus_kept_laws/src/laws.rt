@@ -1,6 +1,6 @@
 //! Laws: functions with nothing to do but to call others, whose contracts hold of all modules.
 
-ghost use Rattle.walrus_kept_laws.specs.Kept.{PlansHaveKept};
+ghost use Rattle.walrus_kept_laws.specs.Kept.{PlansHaveKept, ReadPlansHaveKept};
 ghost use Rattle.walrus_kept_laws.specs.Left.{MeansLeft};
 ghost use Rattle.walrus_kept_laws.specs.Seen.{SeenAsMeant};
 ghost use Rattle.walrus_kept_laws.specs.Stay.{NumberedLeft, PartsStay};
@@ -62,4 +62,12 @@ pub fn seen_as_is_meant<B>()
     read_types_are_read::<B>();
     meanings_of_read_modules_are_merged::<B>();
     handlers_are_lacking();
+}
+
+/// So a plan that lists just what `gc::run` left of a module that was read has just what is kept of the file's module.
+pub fn read_plans_have_kept<B>()
+    ensures { ReadPlansHaveKept B }
+{
+    plans_have_kept::<B>();
+    seen_as_is_meant::<B>();
 }
