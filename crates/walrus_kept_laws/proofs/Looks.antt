@@ -1,5 +1,5 @@
 -- Lemmas: references of a module that was read look the same by ids in memory as by places in the file.
-use Rattle.std.specs.Prelude.{if◌then◌else◌, ℕ, zero, suc, ◌≡◌, ◌<◌, Bool, true, false, List, [], ◌∷◌, ◌++◌, All, Contains, length, map, Option, Some, None, MatchOption, IsSome, IfSome, slice_get, slice_index_or, refl}
+use Rattle.std.specs.Prelude.{if◌then◌else◌, ℕ, ◌≡◌, ◌<◌, Bool, true, false, List, [], ◌∷◌, ◌++◌, All, Contains, length, map, Option, Some, None, IsSome, IfSome, slice_get, slice_index_or, refl}
 use Rattle.std.specs.List.{flat_map, range_with_len}
 use Rattle.std.specs.Option.{is_some, option_and_then, option_map}
 use Rattle.std.proofs.Common.{ap, sym, ◌∙◌, subst, arith, inl, inr}
@@ -16,7 +16,6 @@ use Rattle.walrus_forms.specs.Renaming.{at, renamed_kind, renamed_value}
 use Rattle.walrus_forms.specs.Same.{SameKindIsEquality}
 use Rattle.walrus_forms.proofs.RenamingLemmas.{In as Among}
 use Rattle.walrus_index_maps.specs.Maps.{Ids}
-use Rattle.walrus_items.specs.declared.local.Local.{Local}
 use Rattle.walrus_types.specs.Items.{Item as TypeItem}
 use Rattle.walrus_types.specs.Emission.{is_written, shown_kind}
 use Rattle.walrus_types.specs.Mergers.{ParsingCarriesSame}
@@ -26,8 +25,7 @@ use Rattle.wasm_features.specs.declared.WasmFeatures.{WasmFeatures}
 use Rattle.wasm_formats.specs.declared.fault.Space.{Space}
 use Rattle.wasm_formats.specs.declared.fault.Space.TheVariants as spaces
 use Rattle.wasm_operators.specs.declared.block_type.BlockType.{BlockType}
-use Rattle.wasm_operators.specs.declared.block_type.BlockType.TheVariants as blocks
-use Rattle.wasm_operators.specs.Items.{Locals, Types}
+use Rattle.wasm_operators.specs.Items.{Locals}
 use Rattle.wasm_operators.specs.NameLaws.{NamesAreRenamed, same}
 use Rattle.wasm_operators.specs.Names.{Renaming, operator_names, renamed_operator}
 use Rattle.wasm_operators.specs.Operators.{Seen}
@@ -36,7 +34,7 @@ use Rattle.wasm_grammar.specs.States.{types_of}
 use Rattle.wasm_body_grammar.specs.Codes.{param_count}
 use Rattle.wasm_body_grammar.specs.Rules.{Around}
 use Rattle.wasm_modules.specs.Modules.{Reads}
-use Rattle.wasm_module_rules.specs.Linked.{Each, IsFunctionType}
+use Rattle.wasm_module_rules.specs.Linked.{IsFunctionType}
 use Rattle.wasm_ruled_modules.specs.Rules.{GroupsBelow, around_bodies}
 use Rattle.wasm_normal_form.specs.Bodies.{is_used, new_number, used_keys}
 use Rattle.wasm_normal_form.specs.Laws.{NormalNests}
@@ -77,10 +75,10 @@ use Rattle.walrus_module_items.specs.declared.function.Function.{Function}
 use Rattle.walrus_module_items.specs.declared.function.FunctionKind.{FunctionKind}
 use Rattle.walrus_module_items.specs.declared.function.FunctionKind.TheVariants as functions
 use Rattle.walrus_meaning.specs.Bodies.{depth_of, local_ids, own_body, own_operators, used_locals}
-use Rattle.walrus_meaning.specs.Meaning.{means, own_function, slots_of, type_ids}
+use Rattle.walrus_meaning.specs.Meaning.{means, own_function, type_ids}
 use Rattle.walrus_named_bodies.specs.Parsed.{IsReadAs, read_features}
 use Rattle.walrus_parse_laws.specs.BodiesTexts.{naming, text_of}
-use Rattle.walrus_parse_laws.specs.Locals.{kept_numbers, typed}
+use Rattle.walrus_parse_laws.specs.Locals.{typed}
 use Rattle.walrus_parse_laws.specs.Meant.{picks, place_of}
 use Rattle.walrus_parse_laws.specs.Means.{AreLocals, HasLocals, HasSequences, MeansFile, has_local, kind_types, param_types, types_in}
 use Rattle.walrus_parse_laws.proofs.ItemsSlotLemmas.{each_at}
@@ -452,7 +450,7 @@ module _ {B : Type 0} (merged : MeaningsAreMerged B) (lacking : HandlersAreLacki
         subst (λ (z : Option grammar.Function). ListsAlike ids (named_by (function_items (type_of_local m.locals) (function_parts o)) (slot (means pm).functions n)) (named_by (function_items (λ k. slice_get (slot_locals there z) k) (slot_parts a z)) z))
         (sym (slot_at (numbered_function m.locals) m.funcs.slots n))
         (subst (λ (z : Option grammar.Function). ListsAlike ids (named_by (function_items (type_of_local m.locals) (function_parts o)) z)
-            (named_by (function_items (λ k. slice_get (slot_locals there (option_map (numbered_function m.locals) o)) k) (slot_parts a (option_map (numbered_function m.locals) o))) (option_map (numbered_function m.locals) o)))
+        (named_by (function_items (λ k. slice_get (slot_locals there (option_map (numbered_function m.locals) o)) k) (slot_parts a (option_map (numbered_function m.locals) o))) (option_map (numbered_function m.locals) o)))
         (sym (slot_at (own_function m.locals) m.funcs.slots n)) (option_alike n o refl))
 
     -- ---- other items
