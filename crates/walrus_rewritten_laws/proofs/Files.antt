@@ -9,14 +9,15 @@ use Rattle.wasm_spelled_parts_laws.specs.Whole.{written_part}
 use Rattle.wasm_spelled_parts_laws.specs.Written.{DuePartsAreWritten, IsDue}
 use Rattle.walrus_named_bodies.specs.Parsed.{read_features}
 use Rattle.walrus_parse_laws.specs.Meant.{place_of}
+use Rattle.walrus_kept_laws.specs.Seen.{SeenAsMeant}
 use Rattle.walrus_stands_laws.specs.Stands.{EmissionsStandForFiles, IsLeft, plan_in_file, types_in_file}
 use Rattle.walrus_rewritten_laws.specs.Bytes.{WrittenBytesAreCanonical}
 use Rattle.walrus_rewritten_laws.specs.Files.{KeptFilesAreRewritten}
 use Rattle.walrus_rewritten_laws.specs.Planned.{KeptModulesArePlanned}
 use Rattle.walrus_rewritten_laws.specs.Rewritten.{MadeAreRewritten, PlanStands, WritesFile}
 
-pub files_rewritten : {B : Type 0} → KeptModulesArePlanned B → WrittenBytesAreCanonical B → EmissionsStandForFiles B → DuePartsAreWritten → MadeAreRewritten B → KeptFilesAreRewritten B
-files_rewritten planned_of canonical_of stand due made own_name contents transformed config input read found bytes is kept left emission keeps out short file reads means known =
+pub files_rewritten : {B : Type 0} → SeenAsMeant B → KeptModulesArePlanned B → WrittenBytesAreCanonical B → EmissionsStandForFiles B → DuePartsAreWritten → MadeAreRewritten B → KeptFilesAreRewritten B
+files_rewritten seen planned_of canonical_of stand due made own_name contents transformed config input read found bytes is kept left emission keeps out short file reads means known =
     let features = read_features config in
     let w = out.emitted.written in
     let planned = planned_of config input read found bytes is kept keeps.part own_name contents left emission.bytes.items w in
@@ -27,7 +28,7 @@ files_rewritten planned_of canonical_of stand due made own_name contents transfo
       reads = reads;
       means = means;
       grouped = keeps.grouped;
-      alike = known.alike;
+      alike = seen config input file read found bytes is reads means keeps.grouped config.keep_segments;
       sound = keeps.sound;
       part = keeps.part;
       still = keeps.left_grouped;

@@ -1,28 +1,22 @@
 -- What was written of what is kept of a module that was read is its file rewritten.
-use Rattle.std.specs.Prelude.{ℕ, ◌≤◌, ◌^◌, ◌<◌, All, List, [], length, map, Option, Some}
+use Rattle.std.specs.Prelude.{ℕ, ◌≤◌, ◌^◌, ◌<◌, All, List, length, map, Option, Some}
 use Rattle.wasm_grammar.specs.Modules as grammar
 use Rattle.wasm_modules.specs.Modules.{Reads}
 use Rattle.wasm_ruled_modules.specs.Rules.{IsCounted}
 use Rattle.wasm_part.specs.Part.{Plan, part}
-use Rattle.wasm_part.specs.Seen.{seen_as}
 use Rattle.wasm_rewritten.specs.Customs.{customs_written}
 use Rattle.wasm_rewritten.specs.Rewritten.{Rewritten}
 use Rattle.wasm_spelled_parts_laws.specs.Due.{BodiesAreShort}
 use Rattle.wasm_spelled_parts_laws.specs.Whole.{source_of, written_part}
 use Rattle.walrus_config.specs.declared.config.ModuleConfig.{ModuleConfig}
 use Rattle.walrus_index_maps.specs.Maps.{Ids, Indices}
-use Rattle.walrus_meaning.specs.Meaning.{type_ids}
-use Rattle.walrus_module.specs.Parts.{parts}
 use Rattle.walrus_module.specs.declared.module.Module.{Module}
 use Rattle.walrus_named_bodies.specs.Parsed.{IsReadAs, read_features}
 use Rattle.walrus_parse_laws.specs.Means.{MeansFile}
 use Rattle.walrus_parse_laws.specs.Meant.{place_of}
-use Rattle.walrus_pass_laws.specs.Meant.{meant}
-use Rattle.walrus_parse_gc_laws.specs.Numbered.{numbered}
 use Rattle.walrus_sections.specs.declared.transform.CodeTransform.{CodeTransform}
 use Rattle.walrus_emit_code.specs.declared.emission.Emission.{Emission}
 use Rattle.walrus_emit.specs.Written.{IsWritten}
-use Rattle.walrus_kept_laws.specs.Alike.{KeptAlike}
 use Rattle.walrus_stands_laws.specs.Stands.{plan_in_file}
 use Rattle.walrus_rewritten_laws.specs.Bytes.{SpellsCustoms}
 use Rattle.walrus_rewritten_laws.specs.Made.{Keeps, WritesOut}
@@ -36,8 +30,6 @@ module _ {B : Type 0} (own_name : B → List ℕ) (contents : B → Indices → 
   its_plan = plan_in_file config input file found read kept left w.facts w.order w.emitted
 
   pub record IsKnown : Type 0 where
-    -- the same is kept by ids as by places
-    pub alike : KeptAlike (type_ids read.types) (meant (parts read)) (seen_as (read_features config) (numbered (parts read))) config.keep_segments []
     -- no list is longer than it may be, nor is a body
     pub counted : IsCounted (part its_plan (source_of place_of (read_features config) file))
     pub bodies : BodiesAreShort (read_features config) (written_part place_of config.generate_name_section config.generate_producers_section (read_features config) file its_plan)

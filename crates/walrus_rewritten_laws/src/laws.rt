@@ -63,6 +63,7 @@ pub fn made_are_rewritten<B>()
 pub fn kept_files_are_rewritten<B>()
     ensures { KeptFilesAreRewritten B }
 {
+    walrus_kept_laws::laws::seen_as_is_meant::<B>();
     kept_modules_are_planned::<B>();
     written_bytes_are_canonical::<B>();
     walrus_stands_laws::laws::emissions_stand_for_files::<B>();
