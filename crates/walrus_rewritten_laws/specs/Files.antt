@@ -7,8 +7,7 @@ use Rattle.wasm_part.specs.Part.{Plan, part}
 use Rattle.wasm_part.specs.Seen.{seen_as}
 use Rattle.wasm_rewritten.specs.Customs.{customs_written}
 use Rattle.wasm_rewritten.specs.Rewritten.{Rewritten}
-use Rattle.wasm_spelled_parts_laws.specs.Due.{BodiesAreShort}
-use Rattle.wasm_spelled_parts_laws.specs.Whole.{source_of, written_part}
+use Rattle.wasm_spelled_parts_laws.specs.Whole.{source_of}
 use Rattle.walrus_config.specs.declared.config.ModuleConfig.{ModuleConfig}
 use Rattle.walrus_index_maps.specs.Maps.{Ids, Indices}
 use Rattle.walrus_meaning.specs.Meaning.{type_ids}
@@ -38,9 +37,8 @@ module _ {B : Type 0} (own_name : B → List ℕ) (contents : B → Indices → 
   pub record IsKnown : Type 0 where
     -- the same is kept by ids as by places
     pub alike : KeptAlike (type_ids read.types) (meant (parts read)) (seen_as (read_features config) (numbered (parts read))) config.keep_segments []
-    -- no list is longer than it may be, nor is a body
+    -- no list is longer than it may be
     pub counted : IsCounted (part its_plan (source_of place_of (read_features config) file))
-    pub bodies : BodiesAreShort (read_features config) (written_part place_of config.generate_name_section config.generate_producers_section (read_features config) file its_plan)
     -- custom sections are those that are due
     pub customs : SpellsCustoms own_name contents (record left { customs = kept.customs }) w.facts w.order w.emitted left.customs (read_features config)
         (map (λ (c : grammar.Custom). Some c) (customs_written config.generate_name_section config.generate_producers_section (read_features config) file its_plan))

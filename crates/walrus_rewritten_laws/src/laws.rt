@@ -67,5 +67,7 @@ pub fn kept_files_are_rewritten<B>()
     written_bytes_are_canonical::<B>();
     walrus_stands_laws::laws::emissions_stand_for_files::<B>();
     wasm_spelled_parts_laws::laws::due_parts_are_written();
+    walrus_code_laws::laws::part_bodies_are_short();
+    walrus_code_laws::laws::code_is_apart();
     made_are_rewritten::<B>();
 }
