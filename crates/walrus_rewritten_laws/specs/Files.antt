@@ -2,7 +2,6 @@
 use Rattle.std.specs.Prelude.{ℕ, ◌≤◌, ◌^◌, ◌<◌, All, List, [], length, map, Option, Some}
 use Rattle.wasm_grammar.specs.Modules as grammar
 use Rattle.wasm_modules.specs.Modules.{Reads}
-use Rattle.wasm_ruled_modules.specs.Rules.{IsCounted}
 use Rattle.wasm_part.specs.Part.{Plan, part}
 use Rattle.wasm_part.specs.Seen.{seen_as}
 use Rattle.wasm_rewritten.specs.Customs.{customs_written}
@@ -37,8 +36,6 @@ module _ {B : Type 0} (own_name : B → List ℕ) (contents : B → Indices → 
   pub record IsKnown : Type 0 where
     -- the same is kept by ids as by places
     pub alike : KeptAlike (type_ids read.types) (meant (parts read)) (seen_as (read_features config) (numbered (parts read))) config.keep_segments []
-    -- no list is longer than it may be
-    pub counted : IsCounted (part its_plan (source_of place_of (read_features config) file))
     -- custom sections are those that are due
     pub customs : SpellsCustoms own_name contents (record left { customs = kept.customs }) w.facts w.order w.emitted left.customs (read_features config)
         (map (λ (c : grammar.Custom). Some c) (customs_written config.generate_name_section config.generate_producers_section (read_features config) file its_plan))
