@@ -6,7 +6,6 @@ use Rattle.wasm_part.specs.Part.{Plan, part}
 use Rattle.wasm_part.specs.Seen.{seen_as}
 use Rattle.wasm_rewritten.specs.Customs.{customs_written}
 use Rattle.wasm_rewritten.specs.Rewritten.{Rewritten}
-use Rattle.wasm_spelled_parts_laws.specs.Whole.{source_of}
 use Rattle.walrus_config.specs.declared.config.ModuleConfig.{ModuleConfig}
 use Rattle.walrus_index_maps.specs.Maps.{Ids, Indices}
 use Rattle.walrus_meaning.specs.Meaning.{type_ids}
