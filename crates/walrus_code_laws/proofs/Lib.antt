@@ -5,3 +5,4 @@ pub mod Bodies
 pub mod Spellings
 mod Parts
 mod Emissions
+mod Short

@@ -274,7 +274,7 @@ module _ (p : Plan) (m : Module) where
 
   module _ (a : Around) where
     -- the bytes of the body of a number's function
-    abbrev bytes_at : ℕ → Option (List ℕ)
+    abbrev pub bytes_at : ℕ → Option (List ℕ)
     bytes_at n = own_bytes a (option_map turn (slice_index_or new.functions n None))
 
     bytes_by : (ty : ℕ) (k : FunctionKind) (n : ℕ) → origin_import (own_origin locals k) ≡ Some n → own_bytes a (Some (turn (record { ty = ty; origin = numbered_origin locals k }))) ≡ None
@@ -293,7 +293,7 @@ module _ (p : Plan) (m : Module) where
         sym (ap (λ (o : Option grammar.Function). slot_import function_brought o) (see_at (own_function locals) m.funcs.slots n)) ∙ b.1 in
         ap (λ (o : Option grammar.Function). own_bytes a (option_map turn o)) (see_at (numbered_function locals) m.funcs.slots n) ∙ slot_bytes (slice_index_or m.funcs.slots n None) b.0 told
 
-    part_bodies : ImportsLink old → (order : InOrder old p) → bodies_due a (part p new) ≡ filter_map bytes_at (order.own Functions)
+    pub part_bodies : ImportsLink old → (order : InOrder old p) → bodies_due a (part p new) ≡ filter_map bytes_at (order.own Functions)
     part_bodies link order =
         picked_by (own_bytes a) turn new.functions (p.listed Functions) ∙ ap (λ (ns : List ℕ). filter_map bytes_at ns) (order.listed Functions tt)
         ∙ given_by bytes_at (brought_by old Functions p.imports) (order.own Functions) (front_none link)
@@ -301,7 +301,7 @@ module _ (p : Plan) (m : Module) where
     abbrev meant : BodyFacts → Option (List ℕ)
     meant f = meant_bytes locals m.funcs a p.renames p.brings f.function
 
-    facts_bodies : (facts : List BodyFacts) → filter_map meant facts ≡ filter_map bytes_at (map (λ (f : BodyFacts). f.function) facts)
+    pub facts_bodies : (facts : List BodyFacts) → filter_map meant facts ≡ filter_map bytes_at (map (λ (f : BodyFacts). f.function) facts)
     facts_bodies [] = refl
     facts_bodies (f ∷ facts) =
         ap (λ (o : Option grammar.Function). cons_option (own_bytes a (option_map turn o)) (filter_map meant facts)) (sym (see_at (numbered_function locals) m.funcs.slots f.function))

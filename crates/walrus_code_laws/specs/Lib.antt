@@ -4,3 +4,4 @@ pub mod Bodies
 pub mod Code
 pub mod Parts
 pub mod Emissions
+pub mod Short

@@ -3,6 +3,7 @@
 ghost use Rattle.walrus_code_laws.specs.Bodies.{BodiesAreSpelled};
 ghost use Rattle.walrus_code_laws.specs.Code.{CodeIsSpelled};
 ghost use Rattle.walrus_code_laws.specs.Emissions.{EmissionsServeCode, LinkedArgumentsAreOnce};
+ghost use Rattle.walrus_code_laws.specs.Short.{PartBodiesAreShort};
 ghost use Rattle.walrus_code_laws.specs.Parts.{CodeIsApart, PartCodeIsSpelled, PartsAreCanonical, PartsAreWritten};
 
 /// A body that can be written is the shortest spelling of the body that its function means, renamed by the numbers that items and locals have.
@@ -64,3 +65,12 @@ pub fn emissions_serve_code<B>()
 pub fn linked_arguments_are_once()
     ensures { LinkedArgumentsAreOnce }
 {}
+
+/// The bodies of a code section that can be written are no longer than a reader takes.
+pub fn part_bodies_are_short()
+    ensures { PartBodiesAreShort }
+{
+    bodies_are_spelled();
+    walrus_local_numbers::laws::numbers_follow();
+    walrus_body_laws::emission::locals_are_meant();
+}

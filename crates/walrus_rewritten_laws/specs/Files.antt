@@ -2,12 +2,9 @@
 use Rattle.std.specs.Prelude.{ℕ, ◌≤◌, ◌^◌, ◌<◌, All, List, length, map, Option, Some}
 use Rattle.wasm_grammar.specs.Modules as grammar
 use Rattle.wasm_modules.specs.Modules.{Reads}
-use Rattle.wasm_ruled_modules.specs.Rules.{IsCounted}
 use Rattle.wasm_part.specs.Part.{Plan, part}
 use Rattle.wasm_rewritten.specs.Customs.{customs_written}
 use Rattle.wasm_rewritten.specs.Rewritten.{Rewritten}
-use Rattle.wasm_spelled_parts_laws.specs.Due.{BodiesAreShort}
-use Rattle.wasm_spelled_parts_laws.specs.Whole.{source_of, written_part}
 use Rattle.walrus_config.specs.declared.config.ModuleConfig.{ModuleConfig}
 use Rattle.walrus_index_maps.specs.Maps.{Ids, Indices}
 use Rattle.walrus_module.specs.declared.module.Module.{Module}
@@ -30,9 +27,6 @@ module _ {B : Type 0} (own_name : B → List ℕ) (contents : B → Indices → 
   its_plan = plan_in_file config input file found read kept left w.facts w.order w.emitted
 
   pub record IsKnown : Type 0 where
-    -- no list is longer than it may be, nor is a body
-    pub counted : IsCounted (part its_plan (source_of place_of (read_features config) file))
-    pub bodies : BodiesAreShort (read_features config) (written_part place_of config.generate_name_section config.generate_producers_section (read_features config) file its_plan)
     -- custom sections are those that are due
     pub customs : SpellsCustoms own_name contents (record left { customs = kept.customs }) w.facts w.order w.emitted left.customs (read_features config)
         (map (λ (c : grammar.Custom). Some c) (customs_written config.generate_name_section config.generate_producers_section (read_features config) file its_plan))

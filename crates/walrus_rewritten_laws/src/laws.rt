@@ -68,5 +68,8 @@ pub fn kept_files_are_rewritten<B>()
     written_bytes_are_canonical::<B>();
     walrus_stands_laws::laws::emissions_stand_for_files::<B>();
     wasm_spelled_parts_laws::laws::due_parts_are_written();
+    walrus_counted_laws::laws::written_parts_are_counted::<B>();
+    walrus_code_laws::laws::part_bodies_are_short();
+    walrus_code_laws::laws::code_is_apart();
     made_are_rewritten::<B>();
 }
