@@ -2,7 +2,7 @@
 use Rattle.std.specs.Prelude.{ℕ, ◌≤◌, ◌^◌, ◌<◌, All, List, length, map, Option, Some}
 use Rattle.wasm_grammar.specs.Modules as grammar
 use Rattle.wasm_modules.specs.Modules.{Reads}
-use Rattle.wasm_part.specs.Part.{Plan, part}
+use Rattle.wasm_part.specs.Part.{Plan}
 use Rattle.wasm_rewritten.specs.Customs.{customs_written}
 use Rattle.wasm_rewritten.specs.Rewritten.{Rewritten}
 use Rattle.walrus_config.specs.declared.config.ModuleConfig.{ModuleConfig}
