@@ -1,7 +1,7 @@
 //! What chains of references reach in a module, with the chains.
 
 use std::alloc::Global;
-use std::collections::HashMap;
+use std::collections::BTreeMap;
 use walrus::passes::{Item, Reason, references, roots};
 use walrus::{Module, Result};
 
@@ -24,7 +24,7 @@ pub struct Step {
 pub struct Reached {
     /// The items.
     pub steps: Vec<Step>,
-    positions: HashMap<u64, usize>,
+    positions: BTreeMap<u64, usize>,
 }
 
 // A number for the item, which no other has.
@@ -36,7 +36,7 @@ impl Reached {
     fn new(alloc: Global) -> Self {
         Reached {
             steps: Vec::new(alloc),
-            positions: HashMap::new(alloc),
+            positions: BTreeMap::new(alloc),
         }
     }
 

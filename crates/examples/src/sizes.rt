@@ -16,12 +16,18 @@ const USAGE: &str = "examples sizes IN [COUNT]";
 // How many lines are told where the words don't say.
 const LINES: usize = 20;
 
+// What an item takes.
+#[derive(Clone, Copy)]
+struct Size {
+    bytes: usize,
+    operators: u64,
+    item: Item,
+}
+
 // What a line tells.
 #[derive(Drop)]
 struct Line {
-    bytes: usize,
-    operators: u64,
-    kind: Space,
+    size: Size,
     name: String,
 }
 
@@ -47,30 +53,10 @@ fn operators_of(alloc: Global, funcs: &ModuleFunctions, id: FunctionId) -> Resul
     }
 }
 
-// Adds a line for an item.
-fn add_line(
-    alloc: Global,
-    lines: &mut Vec<Line>,
-    module: &Module,
-    item: Item,
-    bytes: usize,
-    operators: u64,
-) -> Result<(), AllocError> {
-    let name = module.label(alloc, item)?;
-    let kind = item.space;
-    lines.push(Line {
-        bytes,
-        operators,
-        kind,
-        name,
-    })?;
-    Ok(())
-}
-
-// Adds a line for each function with a body.
+// Adds each function with a body.
 fn add_functions(
     alloc: Global,
-    lines: &mut Vec<Line>,
+    sizes: &mut Vec<Size>,
     module: &Module,
     ranges: &[(FunctionId, Range<usize>)],
 ) -> Result<()> {
@@ -78,48 +64,73 @@ fn add_functions(
         let item = Item::new(Space::Function, *id);
         let bytes = range.end.saturating_sub(range.start);
         let operators = operators_of(alloc, &module.funcs, *id)?;
-        add_line(alloc, lines, module, item, bytes, operators)?;
+        sizes.push(Size {
+            bytes,
+            operators,
+            item,
+        })?;
     }
     Ok(())
 }
 
-// Adds a line for each data segment.
-fn add_data(alloc: Global, lines: &mut Vec<Line>, module: &Module) -> Result<(), AllocError> {
+// Adds each data segment.
+fn add_data(sizes: &mut Vec<Size>, module: &Module) -> Result<(), AllocError> {
     for data in module.data_segments.iter() {
         let item = Item::new(Space::Data, data.id());
-        add_line(alloc, lines, module, item, data.value.len(), 0)?;
+        sizes.push(Size {
+            bytes: data.value.len(),
+            operators: 0,
+            item,
+        })?;
     }
     Ok(())
 }
 
-// The lines of a module, by falling bytes.
-fn list(alloc: Global, module: &mut Module) -> Result<Listing> {
+// Lines for the first of these. A label may look through all exports, so none is made for what isn't printed.
+fn lines_of(
+    alloc: Global,
+    module: &Module,
+    sizes: &[Size],
+    count: usize,
+) -> Result<Vec<Line>, AllocError> {
+    let mut lines = Vec::new(alloc);
+    for size in sizes.iter().take(count) {
+        let size = *size;
+        let name = module.label(alloc, size.item)?;
+        lines.push(Line { size, name })?;
+    }
+    Ok(lines)
+}
+
+// So many lines of a module, by falling bytes.
+fn list(alloc: Global, module: &mut Module, count: usize) -> Result<Listing> {
     let (bytes, transform) = module.emit_wasm_with_transform(alloc)?;
     let whole = bytes.len();
     let ranges = transform.function_ranges.as_slice();
-    let mut lines = Vec::new(alloc);
-    add_functions(alloc, &mut lines, &*module, ranges)?;
-    add_data(alloc, &mut lines, &*module)?;
-    lines.sort_by_key(|line| usize::MAX - line.bytes)?;
+    let mut sizes = Vec::new(alloc);
+    add_functions(alloc, &mut sizes, &*module, ranges)?;
+    add_data(&mut sizes, &*module)?;
+    sizes.sort_by_key(|size| usize::MAX - size.bytes)?;
+    let lines = lines_of(alloc, &*module, sizes.as_slice(), count)?;
     Ok(Listing { lines, whole })
 }
 
-// The lines of the module that these bytes spell.
-fn listed(alloc: Global, bytes: &[u8]) -> Result<Listing> {
+// So many lines of the module that these bytes spell.
+fn listed(alloc: Global, bytes: &[u8], count: usize) -> Result<Listing> {
     let mut module: Module = Module::from_buffer(alloc, bytes)?;
-    list(alloc, &mut module)
+    list(alloc, &mut module, count)
 }
 
 fn print_line(rt: &HostRuntime, line: &Line) -> io::Result<()> {
     println!(rt;
         "{:>9}  {:>9}  {} {}",
-        line.bytes, line.operators, line.kind, line.name
+        line.size.bytes, line.size.operators, line.size.item.space, line.name
     )
 }
 
-fn print(rt: &HostRuntime, listing: &Listing, count: usize) -> io::Result<()> {
+fn print(rt: &HostRuntime, listing: &Listing) -> io::Result<()> {
     println!(rt; "    bytes  operators  what")?;
-    for line in listing.lines.iter().take(count) {
+    for line in listing.lines.as_slice() {
         print_line(rt, line)?;
     }
     println!(rt; "{:>9}             all, as it is written", listing.whole)
@@ -143,7 +154,7 @@ pub fn run(rt: &HostRuntime, words: &[String]) -> std::result::Result<(), Failur
         return Err(Failure::Words(USAGE));
     };
     let bytes = read_file(rt, from.as_str())?;
-    let listing = listed(rt.alloc(), bytes.as_slice())?;
-    print(rt, &listing, count)?;
+    let listing = listed(rt.alloc(), bytes.as_slice(), count)?;
+    print(rt, &listing)?;
     Ok(())
 }
