@@ -1,7 +1,8 @@
-//! Functions by what users call them.
+//! Functions by what users call them, and what they have.
 
+use std::alloc::Global;
 use walrus::ir::FunctionId;
-use walrus::{Finds, Module};
+use walrus::{BodyError, Finds, FunctionKind, Module, ModuleError, ModuleFunctions, Result};
 
 // The number behind `#`.
 fn number_in(word: &str) -> Option<u32> {
@@ -25,5 +26,24 @@ pub fn find(module: &Module, word: &str) -> Option<FunctionId> {
         Some(id)
     } else {
         None
+    }
+}
+
+/// The operators of a function, none where it has no body; `else` and `end` aren't counted.
+///
+/// # Errors
+///
+/// `NoTree` where the body is no tree; want of memory.
+pub fn operators_of(alloc: Global, funcs: &ModuleFunctions, id: FunctionId) -> Result<u64> {
+    if !funcs.contains(id) {
+        return Ok(0);
+    }
+    let FunctionKind::Local(local) = &funcs.get(id).kind else {
+        return Ok(0);
+    };
+    match local.size(alloc) {
+        Ok(size) => Ok(size),
+        Err(BodyError::Memory) => Err(ModuleError::Memory),
+        Err(_) => Err(ModuleError::NoTree),
     }
 }

@@ -1,15 +1,13 @@
 //! Lists what takes most room in a module: functions and data segments, by the bytes that are written for them.
 
+use crate::functions::operators_of;
 use program_parts::{Failure, read_file};
 use std::alloc::{AllocError, Global};
 use std::io;
 use std::ops::Range;
 use walrus::ir::FunctionId;
 use walrus::passes::Item;
-use walrus::{
-    BodyError, EmitWasm, FromBuffer, FunctionKind, Labels, Module, ModuleError, ModuleFunctions,
-    Result, Space,
-};
+use walrus::{EmitWasm, FromBuffer, Labels, Module, Result, Space};
 
 const USAGE: &str = "examples sizes IN [COUNT]";
 
@@ -36,21 +34,6 @@ struct Line {
 struct Listing {
     lines: Vec<Line>,
     whole: usize,
-}
-
-// The operators of a function; `else` and `end` aren't counted.
-fn operators_of(alloc: Global, funcs: &ModuleFunctions, id: FunctionId) -> Result<u64> {
-    if !funcs.contains(id) {
-        return Ok(0);
-    }
-    let FunctionKind::Local(local) = &funcs.get(id).kind else {
-        return Ok(0);
-    };
-    match local.size(alloc) {
-        Ok(size) => Ok(size),
-        Err(BodyError::Memory) => Err(ModuleError::Memory),
-        Err(_) => Err(ModuleError::NoTree),
-    }
 }
 
 // Adds each function with a body.
